@@ -1,0 +1,88 @@
+//! The generators: settled by their seeds, and a good mix.
+
+use std::collections::BTreeMap;
+
+use second::examine::{examine, tokens};
+use second::generate::guidelines::guidelines;
+use second::generate::lines::lines;
+use second::generate::texts::texts;
+use second::sheet::answer;
+
+/// How many of the answers begin with each word, refusals by number.
+fn spread(answers: impl Iterator<Item = String>) -> BTreeMap<String, usize> {
+    let mut spread = BTreeMap::new();
+    for answer in answers {
+        let words: Vec<&str> = answer.split(' ').collect();
+        let kind = match words[..] {
+            ["refused", number, ..] => format!("refused {number}"),
+            _ => words[0].to_string(),
+        };
+        *spread.entry(kind).or_insert(0) += 1;
+    }
+    spread
+}
+
+fn count(spread: &BTreeMap<String, usize>, kind: &str) -> usize {
+    spread.get(kind).copied().unwrap_or(0)
+}
+
+#[test]
+fn the_seed_settles_everything() {
+    assert_eq!(lines(5, 200).collect::<Vec<_>>(), lines(5, 200).collect::<Vec<_>>());
+    assert_eq!(guidelines(5, 50).collect::<Vec<_>>(), guidelines(5, 50).collect::<Vec<_>>());
+    assert_eq!(texts(5, 200).collect::<Vec<_>>(), texts(5, 200).collect::<Vec<_>>());
+    assert_ne!(lines(5, 200).collect::<Vec<_>>(), lines(6, 200).collect::<Vec<_>>());
+    let more: Vec<Vec<u8>> = lines(5, 300).take(200).collect();
+    assert_eq!(more, lines(5, 200).collect::<Vec<_>>());
+}
+
+#[test]
+fn as_many_come_as_are_asked_for() {
+    for seed in 0..4 {
+        assert_eq!(lines(seed, 4_000).count(), 4_000);
+        assert_eq!(guidelines(seed, 2_000).count(), 2_000);
+        assert_eq!(texts(seed, 4_000).count(), 4_000);
+    }
+}
+
+#[test]
+fn lines_are_a_mix() {
+    let all: Vec<Vec<u8>> = lines(1, 1_500).collect();
+    assert!(all.iter().all(|line| !line.contains(&b'\n')));
+    let spread = spread(all.iter().filter(|line| line.len() < 1_000).map(|line| answer(line)));
+    for number in [1, 2, 3, 5, 6, 10] {
+        assert!(count(&spread, &format!("refused {number}")) > 0, "refusal {number} is there");
+    }
+    let types = [
+        "text", "integer", "real", "setof_text", "setof_integer", "setof_real", "truth_value",
+        "setof_anything",
+    ];
+    let accepted: usize = types.iter().map(|name| count(&spread, name)).sum();
+    assert!(types.iter().all(|name| count(&spread, name) > 0), "every type is there");
+    assert!((600..1_050).contains(&accepted), "about half of the lines have a value");
+}
+
+#[test]
+fn guidelines_are_a_mix() {
+    let all = guidelines(1, 700).filter(|text| text.len() < 3_000 || text.len() > 16_384);
+    let spread = spread(all.map(|text| examine(&text)));
+    for number in [1, 2, 3, 4, 5, 6, 10] {
+        assert!(count(&spread, &format!("refused {number}")) > 0, "refusal {number} is there");
+    }
+    assert!((280..450).contains(&count(&spread, "loads")), "about half of the guidelines load");
+}
+
+#[test]
+fn texts_are_a_mix() {
+    let all: Vec<Vec<u8>> = texts(1, 2_000).collect();
+    let short = all.iter().filter(|text| text.len() <= 200).count();
+    assert!(short > 1_800, "most of the texts are short");
+    let spread = spread(all.iter().map(|text| tokens(text)));
+    for kind in ["tokens", "refused 1", "refused 2", "refused 6"] {
+        assert!(count(&spread, kind) > 0, "{kind} is there");
+    }
+    let letters: String = all.iter().map(|text| tokens(text)).collect();
+    for letter in ["i", "f", "x", "a", "q", "s", "w", "y"] {
+        assert!(letters.contains(&format!(" {letter}:")), "tokens of kind {letter} are there");
+    }
+}
