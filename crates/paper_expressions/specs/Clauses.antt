@@ -14,6 +14,7 @@ pub data Clause : Type 0 where
   §11·1·2-1a §11·1·2-1b §11·1·2-1c §11·1·2-2 : Clause
   §11·1·3-1 §11·1·3-2a §11·1·3-2b §11·1·3-2c §11·1·3-3a §11·1·3-3b §11·1·3-3c : Clause
   §11·1·3-4a §11·1·3-4b §11·1·3-4c §11·1·3-5 §11·1·3-6 §11·1·3-7 : Clause
+  -- 11.1.4: 1 and 2 of "and", 3 and 4 of "or"
   §11·1·4-1 §11·1·4-2 §11·1·4-3 §11·1·4-4 : Clause
   §11·1·6-1 §11·1·6-2 : Clause
   -- 11.2      (left out: 11.2.11 to 11.2.24)
@@ -26,4 +27,5 @@ pub data Clause : Type 0 where
   §11·2·7-1 §11·2·7-2 : Clause
   §11·2·8-1 §11·2·8-2 : Clause
   §11·2·9-1 §11·2·9-2 : Clause
+  -- 11.2.10 counts behind its "Let"; 2 and 3 are the halves of "Otherwise"
   §11·2·10-1 §11·2·10-2 §11·2·10-3 : Clause

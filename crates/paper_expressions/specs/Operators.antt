@@ -1,7 +1,7 @@
 -- Section 11: each operator's allowed types and the clauses of its evaluation function, in printed order, with the
 -- departures of document 01. Definitions only.
 -- A constructor is a clause: its condition, its name and its value. "Else" is written out, as the denial of what came before.
--- 11.1.5, "#" and "++": left out (10). "<>" is no token (01).
+-- 11.1.5, "#", and "++", which only the grammar has: left out (10). "<>" is no token (01).
 use mathlib.Core.Path.{_≡_}
 use mathlib.Core.Bool.{Bool, true, false}
 use mathlib.Core.Logic.{_⊎_}
@@ -267,7 +267,7 @@ pub data If (v1 v2 v3 : Value) : Clause → Value → Type 0 where
   -- Else Fif(V1, V2, V3) = unknown
   if-3 : ¬ IsTruth v1 true → ¬ IsTruth v1 false → If v1 v2 v3 §11·2·1-3 (one unknown)
 
--- ---- 11.2.2  "-", unary minus      (01: the functor's name is plain "-"; what is within its limit has its negation within it)
+-- ---- 11.2.2  "-", unary minus      (01: a minus before an expression is typed and evaluated as this functor; what is within its limit has its negation within it)
 
 abbrev pub negate-types : List Allowed
 negate-types =
@@ -403,11 +403,11 @@ clause-2 max = §11·2·7-2
 clause-2 min = §11·2·8-2
 
 pub data Extremal (e : Extreme) (v : Value) : Clause → Value → Type 0 where
-  -- If V is a non-empty sequence of values <V1, ..., Vn> and there exists an integer i such that .. then Fmin(T, V) = Vi
+  -- If V is a non-empty sequence of values <V1, ..., Vn> and there exists an integer i such that .. then Fmax(T, V), or Fmin(T, V), = Vi
   --   01: "max and min take the first element that qualifies"
   extremal-1 : {l : List Scalar} {i : ℕ} → IsSequence v l → Best e l i → ((k : ℕ) → k < i → ¬ Best e l k)
       → Extremal e v (clause-1 e) (element l i)
-  -- Else Fmin(T, V) = unknown
+  -- Else Fmax(T, V), or Fmin(T, V), = unknown
   extremal-2 : ((l : List Scalar) (i : ℕ) → IsSequence v l → ¬ Best e l i) → Extremal e v (clause-2 e) (one unknown)
 
 -- ---- 11.2.9  "nth"

@@ -92,7 +92,7 @@ pub data ResolveTask (v : View) (T : ℕ) (a : List ℕ) : Clause → Option ℕ
   -- 3. Else unknown
   resolve-task-3 : ((d : ℕ) → ¬ Sole v a d) → ((p c : ℕ) → ¬ SoleBelow v a T p c) → ResolveTask v T a §9·6-3 none
 
--- ---- what holds of every view of a loaded guideline
+-- ---- what the laws ask of a view; that every view of a loaded guideline has it is shown with load
 
 -- no two names of one kind are equal if case is ignored (refusal 4)
 pub record Apart (v : View) : Type 0 where

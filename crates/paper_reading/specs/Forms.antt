@@ -10,7 +10,7 @@ use Rattle.paper_reading.specs.Kinds.{kindOf}
 infixr 20 _then_
 infixr 10 _or_
 pub data Form : Type 0 where
-  -- no text; the text with no byte; any text; one byte of one of these kinds
+  -- no text (what is left of a form behind a byte that it cannot have); the text with no byte; any text; one byte of one of these kinds
   never empty any : Form
   one : List ℕ → Form
   -- one form after the other; either; zero or more times; any text but these

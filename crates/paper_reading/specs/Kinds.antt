@@ -6,7 +6,7 @@ use lib.Dec.{eqb, leb}
 abbrev within : ℕ → ℕ → ℕ → Bool
 within low high b = leb low b && leb b high
 
--- the kinds, by number: a byte that begins no token of section 2 but may stand in quotes or a comment is `other`
+-- the kinds, by number; `other` is a sign that no form of section 2 tells apart (`;`, `(`, `=`, ..), or a byte that stands only in quotes and comments
 abbrev pub other : ℕ
 other = 0
 

@@ -95,7 +95,7 @@ Matches double-quoted-string w = Match string-form w
 Matches white-space w = Match white-form w
 Matches comment w = Match comment-form w
 
--- ---- 1. "Identify the longest string that matches one of the lexical rules above, if the longest string matches more than one rule
+-- ---- 1. "Identify for the longest string that matches one of the lexical rules above, if the longest string matches more than rule
 --         then use the rule that comes first in the list above"
 
 -- the n bytes of a text from a place on

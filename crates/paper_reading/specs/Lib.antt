@@ -37,3 +37,5 @@ pub mod Rows
 pub mod RefusalLaws
 pub mod MeasureRows
 pub mod WrittenRows
+pub mod NameRows
+pub mod PartRows

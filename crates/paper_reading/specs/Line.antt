@@ -4,7 +4,7 @@ use Prim.Native.String.{String}
 use mathlib.Core.Path.{_≡_}
 use mathlib.Core.Bool.{Bool, true, false, cond}
 use mathlib.Core.List.{List, [], _∷_, _++_}
-use lib.Dec.{ltb}
+use lib.Dec.{eqb, ltb}
 use lib.IntN.{ℤ, pos, negsuc}
 use lib.ListN.{length}
 use Rattle.paper_expressions.specs.Bytes.{bytes}
@@ -116,3 +116,25 @@ value-written (sequence (s ∷ l)) = bytes "[" ++ scalar-written s ++ more-writt
 abbrev pub answer-written : LineAnswer → List ℕ
 answer-written (refused n) = bytes "refused " ++ digits-of n
 answer-written (gives t v) = bytes (type-name t) ++ 32 ∷ value-written v
+
+-- ---- the whole of it: the header, and for each line, counted from 1, its number and its answer
+
+-- what stands before each newline (10), and behind the last one if any byte does
+abbrev last-line : List ℕ → List (List ℕ)
+last-line [] = []
+last-line (b ∷ l) = (b ∷ l) ∷ []
+
+abbrev lines-from : List ℕ → List ℕ → List (List ℕ)
+lines-from begun [] = last-line begun
+lines-from begun (b ∷ w) = cond (eqb b 10) (begun ∷ lines-from [] w) (lines-from (begun ++ (b ∷ [])) w)
+
+abbrev pub lines : List ℕ → List (List ℕ)
+lines input = lines-from [] input
+
+pub data Writes : ℕ → List (List ℕ) → List ℕ → Type 0 where
+  no-more-lines : {n : ℕ} → Writes n [] []
+  next-line : {n : ℕ} {line rest : List ℕ} {more : List (List ℕ)} {a : LineAnswer}
+      → LineAnswers line a → Writes (n + 1) more rest → Writes n (line ∷ more) (digits-of n ++ (32 ∷ answer-written a) ++ (10 ∷ rest))
+
+pub data Output (input : List ℕ) : List ℕ → Type 0 where
+  output : {rest : List ℕ} → Writes 1 (lines input) rest → Output input (bytes "line type value" ++ (10 ∷ rest))

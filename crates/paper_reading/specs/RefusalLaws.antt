@@ -49,7 +49,7 @@ module _ {Short : Type 0} {text : List ℕ} where
       omega arith
 
   pub one-answer : {a b : Answer} → Answers Short text a → Answers Short text b → a ≡ b
-  one-answer (is-loaded h) (is-loaded k) = refl
-  one-answer (is-loaded h) (is-refused k) = absurd (h (k .stage) _ (k .broken))
-  one-answer (is-refused h) (is-loaded k) = absurd (k (h .stage) _ (h .broken))
+  one-answer (is-loaded m h) (is-loaded n k) = refl
+  one-answer (is-loaded m h) (is-refused k) = absurd (h (k .stage) _ (k .broken))
+  one-answer (is-refused h) (is-loaded n k) = absurd (k (h .stage) _ (h .broken))
   one-answer (is-refused h) (is-refused k) = let e = one-number h k in let f = one-place h k in cc

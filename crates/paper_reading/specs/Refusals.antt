@@ -163,5 +163,5 @@ pub data Answer : Type 0 where
   refused : ℕ → ℕ → Answer
 
 pub data Answers (Short : Type 0) (text : List ℕ) : Answer → Type 0 where
-  is-loaded : ((s : Stage) (q : ℕ) → ¬ Breach Short text s q) → Answers Short text loads
+  is-loaded : {g : List TopLevel} → Read text g → ((s : Stage) (q : ℕ) → ¬ Breach Short text s q) → Answers Short text loads
   is-refused : {n p : ℕ} → Refused Short text n p → Answers Short text (refused n p)
