@@ -39,3 +39,8 @@ pub mod MeasureRows
 pub mod WrittenRows
 pub mod NameRows
 pub mod PartRows
+pub mod TerminalLaws
+pub mod TreeLaws
+pub mod SentenceLaws
+pub mod StructureLaws
+pub mod CompleteLaws
