@@ -44,3 +44,4 @@ pub mod TreeLaws
 pub mod SentenceLaws
 pub mod StructureLaws
 pub mod CompleteLaws
+pub mod LineLaws

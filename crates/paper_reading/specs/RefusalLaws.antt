@@ -12,10 +12,10 @@ use Rattle.paper_reading.specs.FormsLaws.{two}
 use Rattle.paper_reading.specs.Refusals
 use Refusals.{Stage, text-stage, lexical-stage, count-stage, grammar-stage, left-out-stage, limit-stage, name-stage, type-stage, turn, number, Breach, Refused, Answer, loads, refused, Answers, is-loaded, is-refused}
 
-abbrev by-turn : ℕ → Stage
+abbrev pub by-turn : ℕ → Stage
 by-turn i = getD (text-stage ∷ lexical-stage ∷ count-stage ∷ grammar-stage ∷ left-out-stage ∷ limit-stage ∷ name-stage ∷ type-stage ∷ []) i text-stage
 
-by-its-turn : (s : Stage) → by-turn (turn s) ≡ s
+pub by-its-turn : (s : Stage) → by-turn (turn s) ≡ s
 by-its-turn text-stage = refl
 by-its-turn lexical-stage = refl
 by-its-turn count-stage = refl
@@ -25,7 +25,7 @@ by-its-turn limit-stage = refl
 by-its-turn name-stage = refl
 by-its-turn type-stage = refl
 
-le-or-gt : (n m : ℕ) → (n ≤ m) ⊎ (m < n)
+pub le-or-gt : (n m : ℕ) → (n ≤ m) ⊎ (m < n)
 le-or-gt n m = ⊎-elim (λ (e : ltb m n ≡ true). inr (ltb-true m n e)) (λ (e : ltb m n ≡ false). inl (ltb-false m n e)) (two (ltb m n))
 
 module _ {Short : Type 0} {text : List ℕ} where
