@@ -1,0 +1,4 @@
+mod TableLaws
+mod MachineLaws
+mod WalkLaws
+mod ReadLaws

@@ -1,0 +1,23 @@
+-- `byte` reads what the table has: the table is Form's rows as bytes, by one computed equality.
+use borrow.Author.Needs.{needs}
+use Rattle.paper_reading.specs.Form.{rows}
+use Rattle.grammar.specs.Tables.{alternatives, alternatives-table}
+use Rattle.grammar.proofs.TableLaws.{byte-at}
+use Rattle.grammar.proofs.byte.Statement.{statement}
+use Rattle.grammar.proofs.byte.Tie as tie
+
+mul-result : tie.Need-mul-result
+mul-result c = search needs
+
+add-result : tie.Need-add-result
+add-result c = search needs
+
+array-read-result : tie.Need-array-read-result
+array-read-result c = search needs
+
+returns : tie.Need-returns
+unfolding rows alternatives alternatives-table
+returns c = byte-at (c .args .a) (c .args .j) (c .pre .0) (c .pre .1)
+
+pub byte-spec : {M : Type 1} → statement M
+byte-spec = tie.close (tie.spec mul-result add-result array-read-result returns)

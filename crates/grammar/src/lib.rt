@@ -1,0 +1,239 @@
+// A machine over a guideline's tokens: accepts exactly the sentences of the print, or answers the first token that no sentence can have there.
+// It goes by one token at a time, with a stack of the symbols that are still to come; the stack grows down from the array's end.
+ghost use mathlib.Core.Path.{_≡_};
+ghost use mathlib.Core.List.{map, _++_};
+ghost use Prim.Native.Nat.{ℕ, _+_, _-_, _≤_, _<_};
+ghost use lib.ListN.{length, getD, drop, set};
+ghost use lib.Seq.{slice};
+ghost use Rattle.paper_reading.specs.Ll.{Sym, blank};
+ghost use Rattle.paper_reading.specs.Form.{G};
+ghost use Rattle.grammar.specs.Tables.{symOf, alternatives, byteOf, sideOf, seekIn, choiceOf};
+ghost use Rattle.grammar.specs.Machine.{passed, past, Stepped, Walked};
+ghost use Rattle.grammar.specs.Reply.{form-of, Reply};
+
+mod tables;
+
+// The symbols from which a sentence may come.
+pub enum Start {
+    Process,
+    Expression,
+}
+
+pub enum Answer {
+    Accepted,
+    // The first token that no sentence can have there; the number of tokens, where a sentence would need more.
+    Refused(usize),
+    // There are over 4,096 tokens; none was looked at.
+    Unread,
+}
+
+// A token is taken: the stack's new top, and the token's label. Or it cannot stand there.
+enum Turn {
+    On(usize, u8),
+    Stuck,
+}
+
+fn wide(b: u8) -> usize
+    ensures { λ r. ⌜ r ≡ b ⌝ }
+{
+    b as usize
+}
+
+// The byte j of the alternative a.
+fn byte(a: usize, j: usize) -> u8
+    requires { ⌜ (a < 210) × (j < 10) ⌝ }
+    ensures { λ r. ⌜ r ≡ byteOf a j ⌝ }
+{
+    tables::ALTERNATIVES[a * 10 + j]
+}
+
+// The first of the alternatives from `from` up to `to` that begins with k, counted from 1; 0 where none does.
+fn seek(k: u8, from: usize, to: usize) -> usize
+    requires { ⌜ (from ≤ to) × (to ≤ 210) ⌝ }
+    ensures { λ r. ⌜ r ≡ seekIn k from (slice from to alternatives) ⌝ }
+{
+    let mut a = from;
+    while a < to {
+        if byte(a, 0) == k {
+            return a + 1;
+        }
+        a += 1;
+    }
+    0
+}
+
+// The alternative of the symbol x that begins with k, counted over all from 1; 0 where there is none.
+fn choice(x: usize, k: u8) -> usize
+    ensures { λ r. ⌜ r ≡ choiceOf x k ⌝ }
+{
+    if x < 48 {
+        let from = wide(tables::ROWS[x]);
+        let to = wide(tables::ROWS[x + 1]);
+        return seek(k, from, to);
+    }
+    0
+}
+
+fn may_be_empty(x: usize) -> bool
+    ensures { λ r. ⌜ r ≡ G .empty x ⌝ }
+{
+    if x < 48 {
+        tables::EMPTY[x] == b'1'
+    } else {
+        true
+    }
+}
+
+// Whether c is passed over at k: a symbol that may be empty, of which no alternative begins with k.
+fn passes(c: u8, k: u8) -> bool
+    ensures { λ r. ⌜ r ≡ passed k (symOf c) ⌝ }
+{
+    if c < 128 {
+        return false;
+    }
+    let x = wide(c) - 128;
+    if choice(x, k) == 0 {
+        return may_be_empty(x);
+    }
+    false
+}
+
+// The top once those are off the stack that are passed over at k.
+fn skip(stack: &[u8; 32768], top: usize, k: u8) -> usize
+    requires { ⌜ (length (now stack) ≡ 32768) × (top ≤ 32768) ⌝ }
+    ensures { λ r. ⌜ ((top ≤ r) × (r ≤ 32768)) × (map symOf (drop r (now (stack .entry))) ≡ past k (map symOf (drop top (now (stack .entry))))) ⌝ }
+{
+    let mut at = top;
+    while at < 32768 {
+        if !passes(stack[at], k) {
+            return at;
+        }
+        at += 1;
+    }
+    at
+}
+
+// Whether all that is still to come may be empty.
+fn all_may_be_empty(stack: &[u8; 32768], top: usize) -> bool
+    requires { ⌜ length (now stack) ≡ 32768 ⌝ }
+    ensures { λ r. ⌜ r ≡ blank G (map symOf (drop top (now (stack .entry)))) ⌝ }
+{
+    let mut at = top;
+    while at < 32768 {
+        let c = stack[at];
+        if c < 128 {
+            return false;
+        }
+        if !may_be_empty(wide(c) - 128) {
+            return false;
+        }
+        at += 1;
+    }
+    true
+}
+
+// Puts on the stack what follows the first token of the alternative a.
+fn push(stack: &mut [u8; 32768], top: usize, a: usize) -> usize
+    requires { ⌜ (length (now stack) ≡ 32768) × (a < 210) × (8 ≤ top) × (top ≤ 32768) ⌝ }
+    ensures { λ r. ⌜ (length (now (stack .exit)) ≡ 32768) × (top ≤ r + 8) × (r ≤ top) × (drop r (now (stack .exit)) ≡ sideOf a ++ drop top (now (stack .entry))) ⌝ }
+{
+    let mut at = top;
+    let mut j = wide(byte(a, 1));
+    while 0 < j {
+        at -= 1;
+        stack[at] = byte(a, j + 1);
+        j -= 1;
+    }
+    at
+}
+
+// Takes the token k off what is still to come.
+fn step(stack: &mut [u8; 32768], top: usize, k: u8) -> Turn
+    requires { ⌜ (length (now stack) ≡ 32768) × (8 ≤ top) × (top ≤ 32768) ⌝ }
+    ensures { λ r. ⌜ Stepped (drop top (now (stack .entry))) k top (now (stack .exit)) r ⌝ }
+{
+    let at = skip(stack, top, k);
+    if at == 32768 {
+        return Turn::Stuck;
+    }
+    let c = stack[at];
+    if c < 128 {
+        if c == k {
+            return Turn::On(at + 1, 0);
+        }
+        return Turn::Stuck;
+    }
+    let a = choice(wide(c) - 128, k);
+    if a == 0 {
+        return Turn::Stuck;
+    }
+    let t = push(stack, at + 1, a - 1);
+    Turn::On(t, c - 127)
+}
+
+// All zero.
+fn clear(labels: &mut [u8])
+    ensures { λ r. ⌜ ((k : ℕ) → getD (now (labels .exit)) k 0 ≡ 0) ⌝ }
+{
+    let mut i = 0;
+    while i < labels.len() {
+        labels[i] = 0;
+        i += 1;
+    }
+}
+
+// Writes a label where there is a cell for it.
+fn put(labels: &mut [u8], i: usize, l: u8)
+    ensures { λ r. ⌜ now (labels .exit) ≡ set (now (labels .entry)) i l ⌝ }
+{
+    if labels.len() <= i {
+        return;
+    }
+    labels[i] = l;
+}
+
+// Takes the tokens one after the other, and labels each that it takes.
+fn walk(kinds: &[u8], stack: &mut [u8; 32768], labels: &mut [u8]) -> Answer
+    requires { ⌜ (length (now stack) ≡ 32768) × (length (now kinds) ≤ 4096) × ((k : ℕ) → getD (now labels) k 0 ≡ 0) ⌝ }
+    ensures { λ r. ⌜ Walked (map symOf (drop 32767 (now (stack .entry)))) (now (kinds .entry)) (now (labels .exit)) r ⌝ }
+{
+    let mut top = 32767;
+    let mut i = 0;
+    while i < kinds.len() {
+        let Turn::On(t, l) = step(stack, top, kinds[i]) else {
+            return Answer::Refused(i);
+        };
+        put(labels, i, l);
+        top = t;
+        i += 1;
+    }
+    if all_may_be_empty(stack, top) {
+        return Answer::Accepted;
+    }
+    Answer::Refused(i)
+}
+
+// The start symbol as it stands on the stack.
+fn code(start: Start) -> u8
+    ensures { λ r. ⌜ symOf r ≡ Sym.N (form-of start) ⌝ }
+{
+    match start {
+        Start::Process => 128,
+        Start::Expression => 168,
+    }
+}
+
+// Reads the tokens as a sentence from the start symbol; each token that is taken gets its label, as far as there are cells, and the cells beyond are zero.
+// A token is a number as the definitions' Tokens has it: one over 100 stands in no sentence.
+// A label is 0 where the token stands inside an alternative, and otherwise one more than the symbol of which it begins one.
+pub fn read(kinds: &[u8], start: Start, labels: &mut [u8]) -> Answer
+    ensures { λ r. ⌜ Reply start (now (kinds .entry)) (now (labels .exit)) r ⌝ }
+{
+    clear(labels);
+    if 4096 < kinds.len() {
+        return Answer::Unread;
+    }
+    let mut stack = [0u8; 32768];
+    stack[32767] = code(start);
+    walk(kinds, &mut stack, labels)
+}
