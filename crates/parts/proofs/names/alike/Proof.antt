@@ -1,0 +1,79 @@
+-- `alike`: the bytes left decide what all decide, by `alike-step` at each turn.
+use mathlib.Core.Path.{_≡_, sym, ap, _∙_}
+use Prim.Native.Nat.{_+_, _/_, _≤_}
+use native.Mathlib.Omega.{arith}
+use borrow.Author.Needs.{needs}
+use Rattle.paper_expressions.specs.Search.{alikeb}
+use Rattle.parts.specs.Texts.{cells, textAt}
+use Rattle.parts.specs.Items.{alike-step, alike-stop, alike-end, alike-long}
+use Rattle.parts.proofs.names.alike.Statement.{statement}
+use Rattle.parts.proofs.names.alike.Tie as tie
+
+abbrev Inv-loop : tie.InvT-loop
+Inv-loop bytes g h n x₀ y₀ m₀ x y m =
+    (x + m ≤ g / 64 + 64) × (y + m ≤ h / 64 + 64) × (alikeb (textAt bytes g) (textAt bytes h) ≡ alikeb (cells bytes x m) (cells bytes y m))
+
+abbrev μ-loop : tie.MeasureT-loop
+μ-loop bytes g h n x₀ y₀ m₀ x y m = m
+
+returns : tie.Need-returns Inv-loop μ-loop
+returns c = let a = c .before .before .args in sym (alike-long (a .bytes .now) _ _ (a .g / 64) (a .h / 64) (c .if1 .taken))
+
+loop-holds : tie.Need-loop-holds Inv-loop μ-loop
+loop-holds c =
+    let a = c .before .before .args in
+    (omega arith, omega arith, ap (λ k. alikeb (textAt (a .bytes .now) (a .g)) (cells (a .bytes .now) (a .h / 64) k)) (sym (c .if1 .left)))
+
+lower-at-requires : tie.Need-lower-at-requires Inv-loop μ-loop
+lower-at-requires c κs = search needs
+
+lower-at-requires-2 : tie.Need-lower-at-requires-2 Inv-loop μ-loop
+lower-at-requires-2 c κs = search needs
+
+returns-2 : tie.Need-returns-2 Inv-loop μ-loop
+returns-2 c =
+    let l = c .before .before .before .before .loop in
+    sym (l .inv .2 ∙ alike-stop (c .before .before .before .before .before .before .before .args .bytes .now) (l .x) (l .y) (l .m) (c .before .before .before .loop-test .taken)
+    (λ e. c .if2 .taken (c .before .before .lower-at .ensures ∙ e ∙ sym (c .before .lower-at2 .ensures))))
+
+add-x : tie.Need-add-x Inv-loop μ-loop
+add-x c = search needs
+
+add-y : tie.Need-add-y Inv-loop μ-loop
+add-y c = search needs
+
+sub-m : tie.Need-sub-m Inv-loop μ-loop
+sub-m c = search needs
+
+loop-less : tie.Need-loop-less Inv-loop μ-loop
+loop-less c = search needs
+
+loop-again : tie.Need-loop-again Inv-loop μ-loop
+loop-again c =
+    let l = c .before .before .before .before .loop in (
+      omega arith,
+      omega arith,
+      l .inv .2 ∙ alike-step (c .before .before .before .before .before .before .before .args .bytes .now) (l .x) (l .y) (l .m) (c .before .before .before .loop-test .taken)
+          (sym (c .before .before .lower-at .ensures) ∙ c .if2 .left ∙ c .before .lower-at2 .ensures),
+    )
+
+returns-3 : tie.Need-returns-3 Inv-loop μ-loop
+returns-3 c = let l = c .before .loop in sym (l .inv .2 ∙ alike-end (c .before .before .before .before .args .bytes .now) (l .x) (l .y) (l .m) (c .loop-test .left))
+
+pub alike-spec : {M : Type 1} → statement M
+alike-spec =
+    tie.close
+    (tie.spec
+    Inv-loop
+    μ-loop
+    returns
+    loop-holds
+    lower-at-requires
+    lower-at-requires-2
+    returns-2
+    add-x
+    add-y
+    sub-m
+    loop-less
+    loop-again
+    returns-3)

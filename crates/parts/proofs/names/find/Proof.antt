@@ -1,0 +1,62 @@
+-- `find`: no name before the index is alike.
+use mathlib.Core.Path.{_≡_, sym, ap, _∙_}
+use mathlib.Core.Bool.{true}
+use Prim.Native.Nat.{ℕ, _-_, _≤_, _<_}
+use native.Mathlib.Omega.{arith}
+use lib.ListN.{length, getD}
+use borrow.Author.Count.{below-more}
+use borrow.Author.Needs.{needs}
+use Rattle.paper_expressions.specs.Search.{alikeb}
+use Rattle.parts.specs.Texts.{textAt}
+use Rattle.parts.proofs.names.find.Statement.{statement}
+use Rattle.parts.proofs.names.find.Tie as tie
+
+abbrev Inv-loop : tie.InvT-loop
+Inv-loop bytes names h i₀ i =
+    (i ≤ length names) × ((k : ℕ) → k < i → alikeb (textAt bytes (getD names k 0)) (textAt bytes h) ≡ true → ⊥)
+
+abbrev μ-loop : tie.MeasureT-loop
+μ-loop bytes names h i₀ i = length names - i
+
+-- what the call of `alike` says, of the name at the index
+asked : (c : tie.After-alike Inv-loop μ-loop) → c .alike .result ≡ alikeb (textAt (c .before .before .before .before .before .before .args .bytes .now) (getD (c .before .before .before .before .before .before .args .names .now) (c .before .before .before .loop .i) 0)) (textAt (c .before .before .before .before .before .before .args .bytes .now) (c .before .before .before .before .before .before .args .h))
+asked c = c .alike .ensures ∙ ap (λ (g : ℕ). alikeb (textAt (c .before .before .before .before .before .before .args .bytes .now) g) (textAt (c .before .before .before .before .before .before .args .bytes .now) (c .before .before .before .before .before .before .args .h))) (c .before .number .ensures)
+
+loop-holds : tie.Need-loop-holds Inv-loop μ-loop
+loop-holds c = search needs
+
+number-requires : tie.Need-number-requires Inv-loop μ-loop
+number-requires c κs = search needs
+
+alike-requires : tie.Need-alike-requires Inv-loop μ-loop
+alike-requires c κs = search needs
+
+returns : tie.Need-returns Inv-loop μ-loop
+returns c = record { within = search needs; before = c .before .before .before .before .loop .inv .1; found = λ l. sym (asked (c .before)) ∙ c .if1 .taken }
+
+add-i : tie.Need-add-i Inv-loop μ-loop
+add-i c = search needs
+
+loop-less : tie.Need-loop-less Inv-loop μ-loop
+loop-less c = search needs
+
+loop-again : tie.Need-loop-again Inv-loop μ-loop
+loop-again c = (search needs, below-more _ _ (c .before .before .before .before .loop .inv .1) (λ e. let z : _≡_ {A = ℕ} 0 1 = cc (asked (c .before), e, c .if1 .left) in absurd (omega arith)))
+
+returns-2 : tie.Need-returns-2 Inv-loop μ-loop
+returns-2 c = record { within = search needs; before = c .before .loop .inv .1; found = λ l. absurd (omega arith) }
+
+pub find-spec : {M : Type 1} → statement M
+find-spec =
+    tie.close
+    (tie.spec
+    Inv-loop
+    μ-loop
+    loop-holds
+    number-requires
+    alike-requires
+    returns
+    add-i
+    loop-less
+    loop-again
+    returns-2)

@@ -1,0 +1,10 @@
+pub mod Codes
+pub mod Texts
+pub mod Part
+pub mod Operands
+pub mod OneTree
+pub mod Encode
+pub mod Items
+pub mod CodeRange
+pub mod Kept
+pub mod Narrow

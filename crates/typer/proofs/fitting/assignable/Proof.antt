@@ -1,0 +1,28 @@
+-- `assignable`: the item's type by its declared type, or no such item.
+use mathlib.Core.Path.{sym, ap, subst, _∙_}
+use borrow.Author.Needs.{needs}
+use Rattle.typer.specs.Leaves.{inferredOf}
+use Rattle.typer.specs.Fitting.{Assignable, assigned-suits, assigned-none}
+use Rattle.typer.proofs.fitting.assignable.Statement.{statement}
+use Rattle.typer.proofs.fitting.assignable.Tie as tie
+
+byte-requires : tie.Need-byte-requires
+byte-requires c κs = search needs
+
+inferred-requires : tie.Need-inferred-requires
+inferred-requires c κs = search needs
+
+meets-requires : tie.Need-meets-requires
+meets-requires c κs = search needs
+
+returns : tie.Need-returns
+returns c =
+    let a = c .before .before .before .before .before .before .args in
+    subst (Assignable (a .names .now) (a .types .now) (a .i) (a .found)) (sym (c .meets .ensures))
+    (assigned-suits (a .names .now) (a .types .now) (a .i) (a .found) (c .before .inferred .result) (c .before .before .before .if1 .taken) (c .before .inferred .ensures ∙ ap inferredOf (c .before .before .byte .ensures)))
+
+returns-2 : tie.Need-returns-2
+returns-2 c = let a = c .before .before .before .args in assigned-none (a .names .now) (a .types .now) (a .i) (a .found) (c .if1 .left)
+
+pub assignable-spec : {M : Type 1} → statement M
+assignable-spec = tie.close (tie.spec byte-requires inferred-requires meets-requires returns returns-2)
