@@ -1,0 +1,33 @@
+-- The function on scalars comes to what the definitions' does.
+use mathlib.Core.Path.{ap₂, _∙_}
+use mathlib.Core.List.{[], _∷_}
+use Rattle.paper_expressions.specs.Operators as section-11
+use Rattle.operators.specs.Comes.{means, single-is}
+use Rattle.arithmetic.specs.Twins.{divideC}
+use Rattle.arithmetic.proofs.Numbers.{divide-comes}
+use borrow.Author.Needs.{needs}
+use Rattle.arithmetic.proofs.calculation.divide.Statement.{statement}
+use Rattle.arithmetic.proofs.calculation.divide.Tie as tie
+
+scalar-of-requires : tie.Need-scalar-of-requires
+scalar-of-requires c κs = search needs
+
+scalar-of-requires-2 : tie.Need-scalar-of-requires-2
+scalar-of-requires-2 c κs = search needs
+
+divide-of-requires : tie.Need-divide-of-requires
+divide-of-requires c κs = search needs
+
+single-requires : tie.Need-single-requires
+single-requires c κs = search needs
+
+returns : tie.Need-returns
+returns c = λ bs. let a = c .before .before .before .before .args in
+    means bs section-11.divide (a .a ∷ a .b ∷ []) (c .single .result) tt
+    (single-is bs (c .single .result) (c .single .ensures)
+    ∙ divide-comes bs (a .a) (a .b) (c .before .divide-of .ensures ∙ ap₂ divideC (c .before .before .before .scalar-of .ensures) (c .before .before .scalar-of2 .ensures)))
+
+pub divide-spec : {M : Type 1} → statement M
+divide-spec =
+    tie.close
+    (tie.spec scalar-of-requires scalar-of-requires-2 divide-of-requires single-requires returns)

@@ -1,0 +1,63 @@
+-- `lexer::number` meets its contract: the sign, then the digits before the point, then those behind it.
+use Prim.Native.Nat.{ℕ, _+_, _-_, _≤_, _<_}
+use native.Mathlib.Omega.{arith}
+use mathlib.Core.Path.{_≡_, sym, ap, _∙_}
+use borrow.Author.Needs.{needs}
+use lib.Dec.{eqb}
+use lib.ListN.{getD}
+use Rattle.paper_reading.specs.Lexical.{part}
+use Rattle.lexer.specs.Numerals.{signOf, minusOf, wholeOf, fractionOf}
+use Rattle.lexer.proofs.Numbers.{first-byte, sign-is, minus-is, whole-is, fraction-is}
+use Rattle.lexer.proofs.number.Statement.{statement}
+use Rattle.lexer.proofs.number.Tie as tie
+
+add-end : tie.Need-add-end
+add-end c = search needs
+
+shared-slice-read-sign : tie.Need-shared-slice-read-sign
+shared-slice-read-sign c = search needs
+
+sign-requires : tie.Need-sign-requires
+sign-requires c κs = search needs
+
+add-from : tie.Need-add-from
+add-from c = search needs
+
+digits-requires : tie.Need-digits-requires
+digits-requires c κs = search needs
+
+add-point : tie.Need-add-point
+add-point c = search needs
+
+behind-requires : tie.Need-behind-requires
+behind-requires c κs = search needs
+
+returns : tie.Need-returns
+returns c =
+    let a = c .before .before .before .before .before .args in
+    let t = a .text .now in
+    let w = part t (a .at) (a .len) in
+    let s = c .before .before .sign .result in
+    let f = first-byte t (a .at) (a .len) (c .before .before .before .before .before .pre .0) in
+    let yes : getD w 0 0 ≡ 45 → s ≡ 1 = λ e. c .before .before .sign .ensures .1 (sym f ∙ e) in
+    let not : ¬ (getD w 0 0 ≡ 45) → s ≡ 0 = λ n. c .before .before .sign .ensures .2 (λ e. n (f ∙ e)) in
+    let m : eqb s 1 ≡ minusOf w = minus-is w s (c .before .before .sign .ensures .0) yes not in
+    let d : s ≡ signOf w = sign-is w s (c .before .before .sign .ensures .0) yes not in
+    let b : c .before .digits .result ≡ wholeOf w
+    = whole-is t (a .at) (a .len) s (c .before .digits .result) (c .behind .result) (c .before .before .before .before .before .pre .1) d (c .before .digits .ensures .0) (c .behind .ensures) in
+    let e : c .behind .result ≡ fractionOf w
+    = fraction-is t (a .at) (a .len) s (c .before .digits .result) (c .behind .result) (c .before .before .before .before .before .pre .1) d (c .before .digits .ensures .0) (c .behind .ensures) in
+    cc
+
+pub number-spec : {M : Type 1} → statement M
+number-spec =
+    tie.close
+    (tie.spec
+    add-end
+    shared-slice-read-sign
+    sign-requires
+    add-from
+    digits-requires
+    add-point
+    behind-requires
+    returns)

@@ -1,0 +1,27 @@
+-- `lexer::word` meets its contract.
+use Prim.Native.Nat.{ℕ}
+use mathlib.Core.Path.{_≡_, ap, _∙_}
+use borrow.Author.Needs.{needs}
+use Rattle.lexer.specs.Answer.{bareOf}
+use Rattle.lexer.proofs.word.Statement.{statement}
+use Rattle.lexer.proofs.word.Tie as tie
+
+look-up-requires : tie.Need-look-up-requires
+look-up-requires c κs = search needs
+
+word-kind-requires : tie.Need-word-kind-requires
+word-kind-requires c κs = search needs
+
+bare-requires : tie.Need-bare-requires
+bare-requires c κs = search needs
+
+returns : tie.Need-returns
+returns c =
+    record {
+      r = c .before .before .look-up .result;
+      found = c .before .before .look-up .ensures;
+      is = c .bare .ensures ∙ ap (λ (k : ℕ). bareOf k (c .before .before .before .before .args .at) (c .before .before .before .before .args .len)) (c .before .word-kind .ensures);
+    }
+
+pub word-spec : {M : Type 1} → statement M
+word-spec = tie.close (tie.spec look-up-requires word-kind-requires bare-requires returns)

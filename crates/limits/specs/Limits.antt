@@ -1,0 +1,18 @@
+-- The limits of running (document 01, How much fits), each named once; those of reading and of values are in paper_reading and paper_expressions. Definitions only.
+use Prim.Native.Nat.{ℕ}
+
+-- "cycles in one run 0 to 256"
+abbrev pub cycle-limit : ℕ
+cycle-limit = 256
+
+-- "Engine time is a whole number of seconds, 0 to 4,294,967,295"
+abbrev pub time-limit : ℕ
+time-limit = 4_294_967_295
+
+-- "a square table of 32 by 32"
+abbrev pub wait-side : ℕ
+wait-side = 32
+
+-- "a list of rows lent by the caller, at least 1,024 long"
+abbrev pub change-rows : ℕ
+change-rows = 1_024

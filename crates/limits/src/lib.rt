@@ -1,0 +1,238 @@
+// Every limit of the project, named once, on the type that it limits; and tied once, by the function beside it, to the definitions.
+ghost use mathlib.Core.Path.{_≡_};
+ghost use lib.IntN.{pos};
+ghost use Rattle.limits.specs.Limits.{cycle-limit, time-limit, wait-side, change-rows};
+ghost use Rattle.paper_expressions.specs.Limits.{integer-limit, real-limit, list-limit};
+ghost use Rattle.paper_expressions.specs.Limits as Values;
+ghost use Rattle.paper_reading.specs.Limits.{text-limit, token-limit, bracket-limit, task-limit, data-item-limit};
+ghost use Rattle.paper_reading.specs.Limits.{part-limit, depth-limit, assignment-limit, source-limit, decimal-limit};
+
+pub struct Guideline;
+
+impl Guideline {
+    // bytes of a guideline text
+    pub const LIMIT: usize = 16_384;
+
+    pub fn bytes() -> usize
+        ensures { λ r. ⌜ r ≡ text-limit ⌝ }
+    {
+        Guideline::LIMIT
+    }
+}
+
+pub struct TokenList;
+
+impl TokenList {
+    // tokens of a text
+    pub const LIMIT: usize = 4_096;
+
+    pub fn tokens() -> usize
+        ensures { λ r. ⌜ r ≡ token-limit ⌝ }
+    {
+        TokenList::LIMIT
+    }
+}
+
+pub struct Brackets;
+
+impl Brackets {
+    // brackets open at once, round and square
+    pub const LIMIT: usize = 24;
+
+    pub fn open() -> usize
+        ensures { λ r. ⌜ r ≡ bracket-limit ⌝ }
+    {
+        Brackets::LIMIT
+    }
+}
+
+pub struct Tasks;
+
+impl Tasks {
+    // tasks, the root among them
+    pub const LIMIT: usize = 32;
+
+    pub fn tasks() -> usize
+        ensures { λ r. ⌜ r ≡ task-limit ⌝ }
+    {
+        Tasks::LIMIT
+    }
+}
+
+pub struct DataItems;
+
+impl DataItems {
+    // data items
+    pub const LIMIT: usize = 64;
+
+    pub fn items() -> usize
+        ensures { λ r. ⌜ r ≡ data-item-limit ⌝ }
+    {
+        DataItems::LIMIT
+    }
+}
+
+pub struct Expressions;
+
+impl Expressions {
+    // expression parts, in all expressions together
+    pub const PARTS: usize = 1_024;
+
+    pub fn parts() -> usize
+        ensures { λ r. ⌜ r ≡ part-limit ⌝ }
+    {
+        Expressions::PARTS
+    }
+}
+
+pub struct Expression;
+
+impl Expression {
+    // how deep one expression goes
+    pub const DEPTH: usize = 24;
+
+    pub fn depth() -> usize
+        ensures { λ r. ⌜ r ≡ depth-limit ⌝ }
+    {
+        Expression::DEPTH
+    }
+}
+
+pub struct Assignments;
+
+impl Assignments {
+    // assignments, in all postconditions
+    pub const LIMIT: usize = 256;
+
+    pub fn assignments() -> usize
+        ensures { λ r. ⌜ r ≡ assignment-limit ⌝ }
+    {
+        Assignments::LIMIT
+    }
+}
+
+pub struct Sources;
+
+impl Sources {
+    // sources, in all tasks
+    pub const LIMIT: usize = 128;
+
+    pub fn sources() -> usize
+        ensures { λ r. ⌜ r ≡ source-limit ⌝ }
+    {
+        Sources::LIMIT
+    }
+}
+
+pub struct Integer;
+
+impl Integer {
+    // integers lie within plus or minus this
+    pub const LIMIT: i64 = 2_000_000;
+
+    pub fn largest() -> i64
+        ensures { λ r. ⌜ r ≡ pos integer-limit ⌝ }
+    {
+        Integer::LIMIT
+    }
+}
+
+pub struct Real;
+
+impl Real {
+    // reals are whole thousandths within plus or minus this
+    pub const LIMIT: i64 = 2_000_000_000;
+
+    // digits of a literal after its point
+    pub const DECIMALS: usize = 3;
+
+    pub fn largest() -> i64
+        ensures { λ r. ⌜ r ≡ pos real-limit ⌝ }
+    {
+        Real::LIMIT
+    }
+
+    pub fn decimals() -> usize
+        ensures { λ r. ⌜ r ≡ decimal-limit ⌝ }
+    {
+        Real::DECIMALS
+    }
+}
+
+pub struct Text;
+
+impl Text {
+    // bytes of a text or name, between its quotes
+    pub const LIMIT: usize = 48;
+
+    pub fn bytes() -> usize
+        ensures { λ r. ⌜ r ≡ Values.text-limit ⌝ }
+    {
+        Text::LIMIT
+    }
+}
+
+pub struct List;
+
+impl List {
+    // elements of a list
+    pub const LIMIT: usize = 16;
+
+    pub fn elements() -> usize
+        ensures { λ r. ⌜ r ≡ list-limit ⌝ }
+    {
+        List::LIMIT
+    }
+}
+
+pub struct Run;
+
+impl Run {
+    // cycles in one run
+    pub const CYCLES: u32 = 256;
+
+    pub fn cycles() -> u32
+        ensures { λ r. ⌜ r ≡ cycle-limit ⌝ }
+    {
+        Run::CYCLES
+    }
+}
+
+pub struct EngineTime;
+
+impl EngineTime {
+    // the latest engine time, in whole seconds
+    pub const LIMIT: u64 = 4_294_967_295;
+
+    pub fn latest() -> u64
+        ensures { λ r. ⌜ r ≡ time-limit ⌝ }
+    {
+        EngineTime::LIMIT
+    }
+}
+
+pub struct Waits;
+
+impl Waits {
+    // rows of the square table of who waits for whom, and places in a row
+    pub const SIDE: usize = 32;
+
+    pub fn side() -> usize
+        ensures { λ r. ⌜ r ≡ wait-side ⌝ }
+    {
+        Waits::SIDE
+    }
+}
+
+pub struct Changes;
+
+impl Changes {
+    // rows that a lent Changes table has at least
+    pub const ROWS: usize = 1_024;
+
+    pub fn rows() -> usize
+        ensures { λ r. ⌜ r ≡ change-rows ⌝ }
+    {
+        Changes::ROWS
+    }
+}

@@ -1,0 +1,6 @@
+pub mod Every
+pub mod Law
+pub mod Cert
+pub mod Steps
+pub mod Ends
+pub mod Symbols

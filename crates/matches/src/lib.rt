@@ -1,0 +1,171 @@
+// The longest match at a place: seven rules go over the bytes in step. Rule 0 is the reserved symbols, rules 1 to 6 the rules of
+// section 2 from the atom on, in their order. A reserved word of letters is an atom here: which atom it is comes after the walk.
+ghost use mathlib.Core.Path.{_≡_};
+ghost use mathlib.Core.Bool.{true};
+ghost use Prim.Native.Nat.{ℕ, _+_, _≤_, _<_};
+ghost use lib.ListN.{length};
+ghost use Rattle.matches.specs.Kinds.{fineOf};
+ghost use Rattle.matches.specs.Machine.{nextOf, accOf, Takes};
+ghost use Rattle.matches.specs.Walk.{betterOf, beginOf, Settled, Closes, Marks};
+
+pub mod table;
+
+const RULES: usize = 7;
+
+// The kind of a byte: the thirteen kinds of the definitions, with the bytes of symbols told apart from the others.
+pub fn kind(b: u8) -> usize
+    ensures { λ r. ⌜ r ≡ fineOf b ⌝ }
+{
+    match b {
+        b'd'..=b'e' | b'D'..=b'E' => 2,
+        b'a'..=b'c' | b'f'..=b'z' | b'A'..=b'C' | b'F'..=b'Z' | b'_' => 1,
+        b'0'..=b'9' => 3,
+        b'-' => 4,
+        b'.' => 5,
+        b'\'' => 6,
+        b'\\' => 7,
+        9..=10 | 13 | 32 => 8,
+        b'/' => 9,
+        b'*' => 10,
+        128..=255 => 11,
+        b'"' => 12,
+        b':' => 13,
+        b'+' => 14,
+        b'<' => 15,
+        b'=' => 16,
+        b'>' => 17,
+        b'!' => 18,
+        b'('..=b')' | b'#' | b',' | b';' | b'[' | b']' => 19,
+        _ => 0,
+    }
+}
+
+// The longest match so far: its length, 0 for none, its rule, and where the rule stands after it.
+pub struct Best {
+    pub len: usize,
+    pub rule: usize,
+    pub state: usize,
+}
+
+// A longer match wins; on a tie the one that is there.
+fn better(best: Best, q: usize, r: usize, n: usize) -> Best
+    requires { ⌜ q < 35 ⌝ }
+    ensures { λ x. ⌜ x ≡ betterOf best q r n ⌝ }
+{
+    if table::accepting(q) {
+        if best.len < n {
+            return Best {
+                len: n,
+                rule: r,
+                state: q,
+            };
+        }
+        return best;
+    }
+    best
+}
+
+// Where the rules start. Where no comment can end any more, the rule of comments is dead from the start.
+fn begin(shut: bool) -> [usize; 7]
+    ensures { λ r. ⌜ r ≡ beginOf shut ⌝ }
+{
+    if shut {
+        return [27, 1, 2, 3, 4, 5, 0];
+    }
+    [27, 1, 2, 3, 4, 5, 6]
+}
+
+// The end of a comment, **/, stands at p.
+fn closes(text: &[u8], p: usize) -> bool
+    ensures { λ r. ⌜ (Closes (now (text .entry)) p → r ≡ true) ⌝ }
+{
+    let n = text.len();
+    if n <= p {
+        return false;
+    }
+    if n - p < 3 {
+        return false;
+    }
+    if text[p] != b'*' {
+        return false;
+    }
+    if text[p + 1] != b'*' {
+        return false;
+    }
+    if text[p + 2] != b'/' {
+        return false;
+    }
+    true
+}
+
+// One past the last place where a comment can end; 0 where there is none. Found once, it settles every comment that is opened later:
+// without it each of many openings would be walked to the end of the text.
+pub fn last_end(text: &[u8]) -> usize
+    ensures { λ r. ⌜ Marks (now (text .entry)) r ⌝ }
+{
+    let mut p = text.len();
+    while 0 < p {
+        if closes(text, p - 1) {
+            return p;
+        }
+        p -= 1;
+    }
+    0
+}
+
+// No comment that starts at a place can end.
+fn hopeless(at: usize, last: usize) -> bool
+    ensures { λ r. ⌜ (r ≡ true → last ≤ at + 3) ⌝ }
+{
+    if last <= at {
+        return true;
+    }
+    if last - at <= 3 {
+        return true;
+    }
+    false
+}
+
+// All rules go from byte to byte in step, up to the first byte that none of them can take.
+fn walk(text: &[u8], at: usize, shut: bool) -> Best
+    requires { ⌜ (at ≤ length (now text)) × (shut ≡ true → (m : ℕ) → ¬ Takes (now text) at 6 m) ⌝ }
+    ensures { λ x. ⌜ Settled (now (text .entry)) at x ⌝ }
+{
+    let mut states = begin(shut);
+    let mut best = Best {
+        len: 0,
+        rule: 0,
+        state: 0,
+    };
+    let mut i = at;
+    'walk: while i < text.len() {
+        let k = kind(text[i]);
+        let n = i - at + 1;
+        let mut alive = 0usize;
+        let mut r = 0usize;
+        'rules: loop {
+            if r == RULES {
+                if alive == 0 {
+                    break 'walk;
+                }
+                break 'rules;
+            }
+            let q = table::next(states[r], k);
+            states[r] = q;
+            best = better(best, q, r, n);
+            alive += q;
+            r += 1;
+        }
+        i += 1;
+    }
+    best
+}
+
+// The longest match at a place, the first rule in order where several have it; length 0 where none matches.
+pub fn longest(text: &[u8], at: usize, last: usize) -> Best
+    requires { ⌜ (at ≤ length (now text)) × Marks (now text) last ⌝ }
+    ensures { λ x. ⌜ Settled (now (text .entry)) at x ⌝ }
+{
+    let shut = hopeless(at, last);
+    walk(text, at, shut)
+}

@@ -1,0 +1,4 @@
+pub mod Scans
+pub mod Elements
+pub mod Sums
+pub mod Picks
