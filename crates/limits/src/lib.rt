@@ -1,9 +1,7 @@
-// Every limit of the project, named once, on the type that it limits; and tied once, by the function beside it, to the definitions.
+// Every limit of reading and of the engine, named once, on the type that it limits; and tied once, by the function beside it, to the definitions.
+// The limits of values stand on the types of values: integers and reals on numbers::Num, texts on values::Handle, lists on values::List.
 ghost use mathlib.Core.Path.{_≡_};
-ghost use lib.IntN.{pos};
 ghost use Rattle.limits.specs.Limits.{cycle-limit, time-limit, wait-side, change-rows};
-ghost use Rattle.paper_expressions.specs.Limits.{integer-limit, real-limit, list-limit};
-ghost use Rattle.paper_expressions.specs.Limits as Values;
 ghost use Rattle.paper_reading.specs.Limits.{text-limit, token-limit, bracket-limit, task-limit, data-item-limit};
 ghost use Rattle.paper_reading.specs.Limits.{part-limit, depth-limit, assignment-limit, source-limit, decimal-limit};
 
@@ -124,64 +122,16 @@ impl Sources {
     }
 }
 
-pub struct Integer;
+pub struct Literal;
 
-impl Integer {
-    // integers lie within plus or minus this
-    pub const LIMIT: i64 = 2_000_000;
-
-    pub fn largest() -> i64
-        ensures { λ r. ⌜ r ≡ pos integer-limit ⌝ }
-    {
-        Integer::LIMIT
-    }
-}
-
-pub struct Real;
-
-impl Real {
-    // reals are whole thousandths within plus or minus this
-    pub const LIMIT: i64 = 2_000_000_000;
-
+impl Literal {
     // digits of a literal after its point
     pub const DECIMALS: usize = 3;
-
-    pub fn largest() -> i64
-        ensures { λ r. ⌜ r ≡ pos real-limit ⌝ }
-    {
-        Real::LIMIT
-    }
 
     pub fn decimals() -> usize
         ensures { λ r. ⌜ r ≡ decimal-limit ⌝ }
     {
-        Real::DECIMALS
-    }
-}
-
-pub struct Text;
-
-impl Text {
-    // bytes of a text or name, between its quotes
-    pub const LIMIT: usize = 48;
-
-    pub fn bytes() -> usize
-        ensures { λ r. ⌜ r ≡ Values.text-limit ⌝ }
-    {
-        Text::LIMIT
-    }
-}
-
-pub struct List;
-
-impl List {
-    // elements of a list
-    pub const LIMIT: usize = 16;
-
-    pub fn elements() -> usize
-        ensures { λ r. ⌜ r ≡ list-limit ⌝ }
-    {
-        List::LIMIT
+        Literal::DECIMALS
     }
 }
 

@@ -12,8 +12,10 @@ pub struct Num {
 }
 
 impl Num {
+    // integers lie within plus or minus this
     pub const INTEGER_LIMIT: i64 = 2_000_000;
 
+    // and the thousandths of reals within this
     pub const REAL_LIMIT: i64 = 2_000_000_000;
 
     pub const UNIT: i64 = 1000;

@@ -4,7 +4,7 @@ use mathlib.Core.Bool.{cond}
 use lib.Dec.{leb}
 use Rattle.paper_expressions.specs.Expressions.{Expr, Exprs, Atom, IntegerLit, FloatLit, StringLit, Paren, Listing, Apply, ε, _▸_}
 
--- bytes of a text
+-- bytes of the whole text that is loaded
 abbrev pub text-limit : ℕ
 text-limit = 16384
 

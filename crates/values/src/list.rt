@@ -1,6 +1,7 @@
 // A list of at most 16 scalars, by value.
 ghost use mathlib.Core.Path.{_≡_};
 ghost use Prim.Native.Nat.{_<_, _≤_};
+ghost use Rattle.paper_expressions.specs.Limits.{list-limit};
 ghost use Rattle.values.specs.Meaning.{at, sizeOf, Stored, Pushed};
 use crate::scalar::Scalar;
 
@@ -15,7 +16,14 @@ pub struct List {
 }
 
 impl List {
+    // elements of a list
     pub const LIST_LIMIT: usize = 16;
+
+    pub fn most_elements() -> usize
+        ensures { λ r. ⌜ r ≡ list-limit ⌝ }
+    {
+        List::LIST_LIMIT
+    }
 }
 
 pub fn empty() -> List

@@ -2,6 +2,7 @@
 ghost use mathlib.Core.Path.{_≡_};
 ghost use lib.ListN.{take, drop};
 ghost use Rattle.paper_expressions.specs.Bytes.{fold, folded};
+ghost use Rattle.paper_expressions.specs.Limits.{text-limit};
 ghost use Rattle.paper_expressions.specs.Compare.{orderT};
 ghost use Rattle.paper_expressions.specs.Search.{alikeb};
 ghost use Rattle.numbers.specs.Signs.{signed};
@@ -15,7 +16,14 @@ pub struct Handle {
 }
 
 impl Handle {
+    // bytes of a text or name, between its quotes
     pub const TEXT_LIMIT: usize = 48;
+
+    pub fn most_bytes() -> usize
+        ensures { λ r. ⌜ r ≡ text-limit ⌝ }
+    {
+        Handle::TEXT_LIMIT
+    }
 }
 
 // The bytes of a text: what there is of them.
