@@ -1,0 +1,24 @@
+-- `in_state`: the state of the task that is found.
+use borrow.Author.Needs.{needs}
+use Rattle.apply.specs.Tasks.{state-found, state-missing}
+use Rattle.apply.proofs.states.in_state.Statement.{statement}
+use Rattle.apply.proofs.states.in_state.Tie as tie
+
+find-task-requires : tie.Need-find-task-requires
+find-task-requires c κs = search needs
+
+byte-requires : tie.Need-byte-requires
+byte-requires c κs = search needs
+
+returns : tie.Need-returns
+returns c =
+    let a = c .before .before .before .before .before .before .args in
+    state-found (a .bytes .now) (a .tasks .now) (a .states .now) (a .state) (a .h) (c .before .before .find-task .result) (c .byte .result) (c .before .before .find-task .ensures) (c .before .if1 .taken) (c .byte .ensures)
+
+returns-2 : tie.Need-returns-2
+returns-2 c =
+    let a = c .before .before .before .before .before .args in
+    state-missing (a .bytes .now) (a .tasks .now) (a .states .now) (a .state) (a .h) (c .before .find-task .result) (c .before .find-task .ensures) (c .if1 .left)
+
+pub in-state-spec : {M : Type 1} → statement M
+in-state-spec = tie.close (tie.spec find-task-requires byte-requires returns returns-2)

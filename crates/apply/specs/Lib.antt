@@ -1,0 +1,3 @@
+pub mod Tasks
+pub mod IsIn
+pub mod Applies

@@ -1,0 +1,69 @@
+-- `all_inside`: every part before the index was tested. The measure is what is left of the table.
+use mathlib.Core.Path.{subst₂}
+use Prim.Native.Nat.{ℕ, _≤_, _<_, _-_}
+use native.Mathlib.Omega.{arith}
+use lib.ListN.{getD, length}
+use borrow.Author.Count.{below-none, below-more}
+use borrow.Author.Tests.{not-false}
+use borrow.Author.Needs.{needs}
+use Rattle.paper_expressions.specs.Search.{no-clash}
+use Rattle.evaluator.specs.Columns.{Spelt}
+use Rattle.evaluator.specs.Texts.{all-spelt}
+use Rattle.evaluator.proofs.texts.all_inside.Statement.{statement}
+use Rattle.evaluator.proofs.texts.all_inside.Tie as tie
+
+abbrev Inv-loop : tie.InvT-loop
+Inv-loop kinds loads bytes p₀ p = (p ≤ length kinds) × ((j : ℕ) → j < p → Spelt bytes (getD kinds j 0) (getD loads j 0))
+
+abbrev μ-loop : tie.MeasureT-loop
+μ-loop kinds loads bytes p₀ p = length kinds - p
+
+loop-holds : tie.Need-loop-holds Inv-loop μ-loop
+loop-holds c = (omega arith, below-none _)
+
+byte-requires : tie.Need-byte-requires Inv-loop μ-loop
+byte-requires c κs = search needs
+
+number-requires : tie.Need-number-requires Inv-loop μ-loop
+number-requires c κs = search needs
+
+inside-requires : tie.Need-inside-requires Inv-loop μ-loop
+inside-requires c κs = search needs
+
+returns : tie.Need-returns Inv-loop μ-loop
+returns c = λ e. absurd (no-clash (cc))
+
+add-p : tie.Need-add-p Inv-loop μ-loop
+add-p c = search needs
+
+loop-less : tie.Need-loop-less Inv-loop μ-loop
+loop-less c = search needs
+
+loop-again : tie.Need-loop-again Inv-loop μ-loop
+loop-again c =
+    let a = c .before .before .before .before .before .before .before .before .before .args in
+    let l = c .before .before .before .before .before .loop in
+    let h = c .before .inside .ensures (not-false (c .before .inside .result) (c .if1 .left)) in
+    (omega arith, below-more _ _ (l .inv .1) (subst₂ (Spelt (a .bytes .now)) (c .before .before .before .byte .ensures) (c .before .before .number .ensures) h))
+
+returns-2 : tie.Need-returns-2 Inv-loop μ-loop
+returns-2 c = λ e.
+    let a = c .before .before .before .before .before .args in
+    let l = c .before .loop in
+    all-spelt (a .bytes .now) (a .kinds .now) (a .loads .now) (l .p) (c .loop-test .left) (l .inv .1)
+
+pub all-inside-spec : {M : Type 1} → statement M
+all-inside-spec =
+    tie.close
+    (tie.spec
+    Inv-loop
+    μ-loop
+    loop-holds
+    byte-requires
+    number-requires
+    inside-requires
+    returns
+    add-p
+    loop-less
+    loop-again
+    returns-2)

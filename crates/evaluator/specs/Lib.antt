@@ -1,0 +1,10 @@
+pub mod Columns
+pub mod Texts
+pub mod Lists
+pub mod Items
+pub mod Operands
+pub mod Leaves
+pub mod Compound
+pub mod Valued
+pub mod Published
+pub mod Example

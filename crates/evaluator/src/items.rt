@@ -1,0 +1,67 @@
+// The values of the data items, from their columns: 17 cells an item, a tag and a number each.
+// The tag of the first cell is the item's shape: 0 for one value, in the second cell, or one more than the length of a list, which follows.
+// Of the others it is 1 for a truth value, 2 integer, 3 real, 4 text; any other is unknown.
+ghost use mathlib.Core.Path.{_≡_};
+ghost use Prim.Native.Nat.{_≤_};
+ghost use lib.ListN.{getD};
+ghost use Rattle.evaluator.specs.Columns.{scalarAt, cellAt, ElementsOf, ItemOf};
+use super::operands;
+use numbers::Wide;
+use values::List;
+use values::Scalar;
+use values::Value;
+
+// The value with that tag and the number at `p`.
+pub fn scalar(tag: u8, col: &[u32], p: usize) -> Scalar
+    ensures { λ r. ⌜ r ≡ scalarAt tag (getD (now (col .entry)) p 0) ⌝ }
+{
+    match tag {
+        1 => Scalar::Truth(parts::number(col, p) == 1),
+        2 => values::integer(Wide {
+            z: parts::literal(col, p),
+        }),
+        3 => values::real(Wide {
+            z: parts::literal(col, p),
+        }),
+        4 => Scalar::Text(apply::handle(parts::number(col, p))),
+        _ => Scalar::Unknown,
+    }
+}
+
+fn cell(tags: &[u8], cells: &[u32], p: usize) -> Scalar
+    ensures { λ r. ⌜ r ≡ cellAt (now (tags .entry)) (now (cells .entry)) p ⌝ }
+{
+    scalar(parts::byte(tags, p), cells, p)
+}
+
+// The list of the `n` cells from `p` on, made from the last to the first.
+fn elements(tags: &[u8], cells: &[u32], p: usize, n: usize) -> List
+    requires { ⌜ (p ≤ 2000000) × (n ≤ 16) ⌝ }
+    ensures { λ r. ⌜ ElementsOf (now (tags .entry)) (now (cells .entry)) p n r ⌝ }
+{
+    let mut l = operands::blank(n);
+    let mut k = n;
+    while 0 < k {
+        k -= 1;
+        l = operands::put_at(l, k, cell(tags, cells, p + k));
+    }
+    l
+}
+
+// The value of the i-th data item.
+pub fn value(tags: &[u8], cells: &[u32], i: usize) -> Value
+    ensures { λ r. ⌜ ItemOf (now (tags .entry)) (now (cells .entry)) i r ⌝ }
+{
+    if 65536 <= i {
+        return values::single(Scalar::Unknown);
+    }
+    let p = 17 * i;
+    let shape = parts::byte(tags, p) as usize;
+    if shape == 0 {
+        return values::single(cell(tags, cells, p + 1));
+    }
+    if 17 < shape {
+        return values::single(Scalar::Unknown);
+    }
+    values::many(elements(tags, cells, p + 1, shape - 1))
+}
