@@ -1,0 +1,100 @@
+-- Laws on the bytes of a part of a text: one by one, and without their quotes. By induction on how many there are.
+use Prim.Native.Nat.{ℕ, zero, suc, _+_, _*_, _-_, _≤_, _<_}
+use mathlib.Core.Path.{_≡_, refl, ap, _∙_}
+use mathlib.Core.Bool.{Bool, true, false, _||_, _&&_}
+use mathlib.Core.List.{List, [], _∷_}
+use native.Mathlib.Nat.{not-suc-le-zero}
+use native.Mathlib.Numerals.{add-one}
+use native.Mathlib.Omega.{arith}
+use lib.Dec.{eqb}
+use lib.ListN.{getD, length}
+use lib.Seq.{drop-cons}
+use borrow.Author.Tests.{eq-eqb, ne-eqb}
+use Rattle.paper_expressions.specs.Search.{sameb}
+use Rattle.paper_reading.specs.Lexical.{part, inner}
+use Rattle.parts.specs.Texts.{cells}
+use Rattle.leaves.specs.Numbers.{three, above, below, signed}
+
+pub cells-more : (b : List ℕ) (i m : ℕ) → 0 < m → cells b i m ≡ getD b i 0 ∷ cells b (i + 1) (m - 1)
+cells-more b i zero h = absurd (not-suc-le-zero h)
+cells-more b i (suc m) h = let e : suc m - 1 ≡ m = omega arith in rw (add-one i, e)
+
+pub cells-none : (b : List ℕ) (i m : ℕ) → m ≤ 0 → cells b i m ≡ []
+cells-none b i zero h = refl
+cells-none b i (suc m) h = absurd (not-suc-le-zero h)
+
+-- a part of a text that ends inside
+pub part-cells : (b : List ℕ) (i m : ℕ) → i + m ≤ length b → part b i m ≡ cells b i m
+part-cells b i zero h = refl
+part-cells b i (suc m) h = rw (drop-cons b i 0 (omega arith)) (ap (λ (w : List ℕ). getD b i 0 ∷ w) (part-cells b (suc i) m (omega arith)))
+
+pub length-cells : (b : List ℕ) (i m : ℕ) → length (cells b i m) ≡ m
+length-cells b i zero = refl
+length-cells b i (suc m) = ap suc (length-cells b (suc i) m)
+
+abbrev but-last : List ℕ → List ℕ
+but-last [] = []
+but-last (b ∷ []) = []
+but-last (b ∷ c ∷ w) = b ∷ but-last (c ∷ w)
+
+but-last-cells : (b : List ℕ) (i m : ℕ) → but-last (cells b i m) ≡ cells b i (m - 1)
+but-last-cells b i zero = refl
+but-last-cells b i (suc zero) = refl
+but-last-cells b i (suc (suc m)) =
+    let e : suc (suc m) - 1 ≡ suc m = omega arith in
+    let f : suc m - 1 ≡ m = omega arith in
+    rw e (ap (λ (w : List ℕ). getD b i 0 ∷ w) (but-last-cells b (suc i) (suc m) ∙ ap (cells b (suc i)) f))
+
+pub inner-quoted : (b : List ℕ) (i m q : ℕ) → 0 < m → getD b i 0 ≡ q → (eqb q 39 || eqb q 34) ≡ true → inner (cells b i m) ≡ cells b (i + 1) (m - 1 - 1)
+inner-quoted b i m q h e t = rw (cells-more b i m h, e, t) (but-last-cells b (i + 1) (m - 1))
+
+pub inner-bare : (b : List ℕ) (i m : ℕ) → ¬ (getD b i 0 ≡ 39) → ¬ (getD b i 0 ≡ 34) → inner (cells b i m) ≡ cells b i m
+inner-bare b i zero f g = refl
+inner-bare b i (suc m) f g = rw (ne-eqb (getD b i 0) 39 f, ne-eqb (getD b i 0) 34 g)
+
+-- ---- two texts, byte by byte
+
+pub same-more : (a b : List ℕ) (x y m : ℕ) → 0 < m → getD a x 0 ≡ getD b y 0 → sameb (cells a x m) (cells b y m) ≡ sameb (cells a (x + 1) (m - 1)) (cells b (y + 1) (m - 1))
+same-more a b x y m h e = rw (cells-more a x m h, cells-more b y m h, eq-eqb (getD a x 0) (getD b y 0) e)
+
+pub same-stop : (a b : List ℕ) (x y m : ℕ) → 0 < m → ¬ (getD a x 0 ≡ getD b y 0) → sameb (cells a x m) (cells b y m) ≡ false
+same-stop a b x y m h e = rw (cells-more a x m h, cells-more b y m h, ne-eqb (getD a x 0) (getD b y 0) e)
+
+pub same-end : (a b : List ℕ) (x y m : ℕ) → m ≤ 0 → sameb (cells a x m) (cells b y m) ≡ true
+same-end a b x y m h = rw (cells-none a x m h, cells-none b y m h)
+
+both-false : (p q : Bool) → q ≡ false → (p && q) ≡ false
+both-false true q e = e
+both-false false q e = refl
+
+pub same-long : (a b : List ℕ) (n m x y : ℕ) → ¬ (n ≡ m) → sameb (cells a x m) (cells b y n) ≡ false
+same-long a b zero zero x y h = absurd (h refl)
+same-long a b zero (suc m) x y h = refl
+same-long a b (suc n) zero x y h = refl
+same-long a b (suc n) (suc m) x y h =
+    both-false (eqb (getD a x 0) (getD b y 0)) (sameb (cells a (suc x) m) (cells b (suc y) n)) (same-long a b n m (suc x) (suc y) (λ e. h (ap suc e)))
+
+-- ---- three digits
+
+pub three-one : (b : List ℕ) (i m : ℕ) → m ≡ 1 → three (cells b i m) ≡ (getD b i 0 - 48) * 100
+three-one b i m h = rw h
+
+pub three-two : (b : List ℕ) (i m : ℕ) → m ≡ 2 → three (cells b i m) ≡ (getD b i 0 - 48) * 100 + (getD b (i + 1) 0 - 48) * 10
+three-two b i m h = rw (h, add-one i)
+
+pub three-more : (b : List ℕ) (i m : ℕ) → 2 < m → three (cells b i m) ≡ (getD b i 0 - 48) * 100 + (getD b (i + 1) 0 - 48) * 10 + (getD b (i + 2) 0 - 48)
+three-more b i m h =
+    let e : i + 1 + 1 ≡ i + 2 = omega arith in
+    rw (cells-more b i m (omega arith), cells-more b (i + 1) (m - 1) (omega arith), cells-more b (i + 1 + 1) (m - 1 - 1) (omega arith), e)
+
+-- ---- a sign, or none
+
+module _ (f : List ℕ → ℕ) (b : List ℕ) (i m : ℕ) where
+  pub signed-none : m ≡ 0 → signed f (cells b i m) ≡ above (f (cells b i 0))
+  signed-none h = rw h
+
+  pub signed-minus : 0 < m → getD b i 0 ≡ 45 → signed f (cells b i m) ≡ below (f (cells b (i + 1) (m - 1)))
+  signed-minus h e = rw (cells-more b i m h, e)
+
+  pub signed-plain : 0 < m → ¬ (getD b i 0 ≡ 45) → signed f (cells b i m) ≡ above (f (cells b i m))
+  signed-plain h e = rw (cells-more b i m h, ne-eqb (getD b i 0) 45 e)

@@ -1,0 +1,128 @@
+// The loads of integer and float tokens: 2,000,000,000 and the number. What is past the limits is cut off.
+use parts::byte;
+ghost use mathlib.Core.Path.{_≡_};
+ghost use Prim.Native.Nat.{_+_, _-_, _≤_, _<_};
+ghost use lib.ListN.{length};
+ghost use Rattle.parts.specs.Texts.{cells};
+ghost use Rattle.leaves.specs.Numbers.{most, grown as grownOf, digits as digitsOf, three as threeOf, fixed as fixedOf, above as aboveOf, below as belowOf, signed};
+
+// A digit's number; of a byte that is no digit, anything.
+fn digit(b: u8) -> u32
+    ensures { λ r. ⌜ (r ≡ b - 48) × (r ≤ 207) ⌝ }
+{
+    if b < 48 {
+        return 0;
+    }
+    (b - 48) as u32
+}
+
+// One digit more, up to a number that is past the limit of integers.
+fn grown(n: u32, b: u8) -> u32
+    requires { ⌜ n ≤ most ⌝ }
+    ensures { λ r. ⌜ (r ≡ grownOf n b) × (r ≤ most) ⌝ }
+{
+    let m = n * 10 + digit(b);
+    if m <= 2_000_001 {
+        return m;
+    }
+    2_000_001
+}
+
+// The number that `n` digits write.
+fn digits(text: &[u8], at: usize, n: usize) -> u32
+    requires { ⌜ at + n ≤ length (now text) ⌝ }
+    ensures { λ r. ⌜ (r ≡ digitsOf 0 (cells (now (text .entry)) at n)) × (r ≤ most) ⌝ }
+{
+    let mut v: u32 = 0;
+    let mut i = at;
+    let mut m = n;
+    while 0 < m {
+        v = grown(v, byte(text, i));
+        i += 1;
+        m -= 1;
+    }
+    v
+}
+
+// The first three digits behind the point, as thousandths.
+fn three(text: &[u8], at: usize, n: usize) -> u32
+    requires { ⌜ at + n ≤ length (now text) ⌝ }
+    ensures { λ r. ⌜ (r ≡ threeOf (cells (now (text .entry)) at n)) × (r ≤ 22977) ⌝ }
+{
+    if n == 0 {
+        return 0;
+    }
+    let a = digit(byte(text, at)) * 100;
+    if n == 1 {
+        return a;
+    }
+    let b = a + digit(byte(text, at + 1)) * 10;
+    if n == 2 {
+        return b;
+    }
+    b + digit(byte(text, at + 2))
+}
+
+// The thousandths that `n` digits with a point write.
+fn fixed(text: &[u8], at: usize, n: usize) -> u32
+    requires { ⌜ at + n ≤ length (now text) ⌝ }
+    ensures { λ r. ⌜ (r ≡ fixedOf 0 (cells (now (text .entry)) at n)) × (r ≤ 2000023977) ⌝ }
+{
+    let mut v: u32 = 0;
+    let mut i = at;
+    let mut m = n;
+    while 0 < m {
+        let b = byte(text, i);
+        if b == 46 {
+            return v * 1000 + three(text, i + 1, m - 1);
+        }
+        v = grown(v, b);
+        i += 1;
+        m -= 1;
+    }
+    v * 1000
+}
+
+fn above(v: u32) -> u32
+    requires { ⌜ v ≤ 2000023977 ⌝ }
+    ensures { λ r. ⌜ r ≡ aboveOf v ⌝ }
+{
+    2_000_000_000 + v
+}
+
+fn below(v: u32) -> u32
+    ensures { λ r. ⌜ r ≡ belowOf v ⌝ }
+{
+    if 2_000_000_000 < v {
+        return 0;
+    }
+    2_000_000_000 - v
+}
+
+// The load of an integer token of `n` bytes.
+pub fn integer(text: &[u8], at: usize, n: usize) -> u32
+    requires { ⌜ at + n ≤ length (now text) ⌝ }
+    ensures { λ r. ⌜ r ≡ signed (digitsOf 0) (cells (now (text .entry)) at n) ⌝ }
+{
+    if n == 0 {
+        return above(digits(text, at, 0));
+    }
+    if byte(text, at) == 45 {
+        return below(digits(text, at + 1, n - 1));
+    }
+    above(digits(text, at, n))
+}
+
+// The load of a float token of `n` bytes.
+pub fn float(text: &[u8], at: usize, n: usize) -> u32
+    requires { ⌜ at + n ≤ length (now text) ⌝ }
+    ensures { λ r. ⌜ r ≡ signed (fixedOf 0) (cells (now (text .entry)) at n) ⌝ }
+{
+    if n == 0 {
+        return above(fixed(text, at, 0));
+    }
+    if byte(text, at) == 45 {
+        return below(fixed(text, at + 1, n - 1));
+    }
+    above(fixed(text, at, n))
+}

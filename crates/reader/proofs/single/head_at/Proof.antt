@@ -1,0 +1,30 @@
+-- `head_at`: the token's bytes are in the text, and say what they say.
+use mathlib.Core.Path.{sym, _∙_}
+use Rattle.paper_reading.specs.FormsLaws.{contra}
+use Rattle.reader.specs.Laws.{said-head, token-fits}
+use borrow.Author.Needs.{needs}
+use Rattle.reader.proofs.single.head_at.Statement.{statement}
+use Rattle.reader.proofs.single.head_at.Tie as tie
+
+cell-requires : tie.Need-cell-requires
+cell-requires c κs = search needs
+
+cell-requires-2 : tie.Need-cell-requires-2
+cell-requires-2 c κs = search needs
+
+fits-requires : tie.Need-fits-requires
+fits-requires c κs = search needs
+
+head-requires : tie.Need-head-requires
+head-requires c κs = (c .before .fits2) .ensures .0 ((c .if1) .taken)
+
+returns : tie.Need-returns
+returns c = λ t h b s l. said-head h _ b s l ((c .before .before .before .before .cell) .ensures) ((c .before .before .before .cell2) .ensures) ((c .head) .ensures)
+
+returns-2 : tie.Need-returns-2
+returns-2 c = λ t h b s l. contra (sym ((c .if1) .left) ∙ (c .before .fits2) .ensures .1 (token-fits h ((c .before .before .before .cell) .ensures) ((c .before .before .cell2) .ensures)))
+
+pub head-at-spec : {M : Type 1} → statement M
+head-at-spec =
+    tie.close
+    (tie.spec cell-requires cell-requires-2 fits-requires head-requires returns returns-2)

@@ -1,0 +1,21 @@
+-- `room`: by the tests that the code makes.
+use native.Mathlib.Omega.{arith}
+use Rattle.paper_reading.specs.FormsLaws.{contra}
+use borrow.Author.Needs.{needs}
+use Rattle.reader.proofs.store.room.Statement.{statement}
+use Rattle.reader.proofs.store.room.Tie as tie
+
+returns : tie.Need-returns
+returns c = (λ e. contra e, λ a b. absurd (omega arith))
+
+returns-2 : tie.Need-returns-2
+returns-2 c = (λ e. contra e, λ a b. absurd (omega arith))
+
+returns-3 : tie.Need-returns-3
+returns-3 c = (λ e. contra e, λ a b. absurd (omega arith))
+
+returns-4 : tie.Need-returns-4
+returns-4 c = search needs
+
+pub room-spec : {M : Type 1} → statement M
+room-spec = tie.close (tie.spec returns returns-2 returns-3 returns-4)

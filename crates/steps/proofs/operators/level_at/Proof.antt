@@ -1,0 +1,36 @@
+-- `level_at`: by where the expression stands.
+use mathlib.Core.Path.{sym, ap, _∙_}
+use borrow.Author.Tests.{not-false, not-true}
+use Rattle.steps.specs.Levels.{levelOf, level-and, level-other, level-any}
+use borrow.Author.Needs.{needs}
+use Rattle.steps.proofs.operators.level_at.Statement.{statement}
+use Rattle.steps.proofs.operators.level_at.Tie as tie
+
+kind-at-requires : tie.Need-kind-at-requires
+kind-at-requires c κs = search needs
+
+level-requires : tie.Need-level-requires
+level-requires c κs = search needs
+
+returns : tie.Need-returns
+returns c =
+    let k = (c .before .before .kind-at) .ensures in
+    sym (level-any ((c .before .before .before .before) .args .assigned) _ (not-true _ ((c .before .if1) .taken)) ∙ ap levelOf (sym k) ∙ sym ((c .level) .ensures))
+
+returns-2 : tie.Need-returns-2
+returns-2 c =
+    let k = (c .before .before .kind-at) .ensures in
+    sym (level-and ((c .before .before .before .before) .args .assigned) _ (sym k ∙ (c .if2) .taken) (not-false _ ((c .before .if1) .left)))
+
+level-requires-2 : tie.Need-level-requires-2
+level-requires-2 c κs = search needs
+
+returns-3 : tie.Need-returns-3
+returns-3 c =
+    let k = (c .before .before .before .kind-at) .ensures in
+    sym (level-other ((c .before .before .before .before .before) .args .assigned) _ (λ q. (c .before .if2) .left (k ∙ q)) ∙ ap levelOf (sym k) ∙ sym ((c .level2) .ensures))
+
+pub level-at-spec : {M : Type 1} → statement M
+level-at-spec =
+    tie.close
+    (tie.spec kind-at-requires level-requires returns returns-2 level-requires-2 returns-3)
