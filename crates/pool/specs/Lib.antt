@@ -1,0 +1,5 @@
+pub mod Written
+pub mod Pooled
+pub mod Columns
+pub mod Held
+pub mod Beside

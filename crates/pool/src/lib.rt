@@ -1,0 +1,103 @@
+// The names and texts of an expression, gathered in the text bytes: a part table that the reader has filled leads into the
+// guideline's own text, and afterwards holds the same expression over the text bytes.
+use parts::byte;
+use parts::number;
+ghost use mathlib.Core.Path.{_≡_};
+ghost use lib.ListN.{length, getD};
+ghost use Prim.Native.Nat.{_+_, _≤_};
+ghost use Rattle.parts.specs.Texts.{cells};
+ghost use Rattle.pool.specs.Written.{Written};
+ghost use Rattle.pool.specs.Pooled.{Gathers, nowhere as nowhereOf};
+ghost use Rattle.pool.specs.Columns.{Rooms, Moves, texted};
+
+// No handle leads to this place or behind it.
+const NOWHERE: usize = 67_108_864;
+
+// Whether a part of kind `k` loads a text.
+fn has_text(k: u8) -> bool
+    ensures { λ r. ⌜ r ≡ texted k ⌝ }
+{
+    match k {
+        1 => true,
+        4 => true,
+        250 => true,
+        _ => false,
+    }
+}
+
+// Whether `n` bytes from `o` on fit `long` bytes and a handle.
+fn room(long: usize, o: usize, n: usize) -> bool
+    ensures { λ r. ⌜ Rooms long (o + n) r ⌝ }
+{
+    if NOWHERE <= o {
+        return false;
+    }
+    if NOWHERE - o <= n {
+        return false;
+    }
+    if long < o + n {
+        return false;
+    }
+    true
+}
+
+// Copies `n` bytes of the text to the bytes from `o` on.
+fn copy(text: &[u8], place: usize, n: usize, bytes: &mut [u8], o: usize)
+    requires { ⌜ (o + n ≤ length (now bytes)) × (place + n ≤ nowhereOf + 64) ⌝ }
+    ensures { λ r. ⌜ Written (now (bytes .entry)) (now (bytes .exit)) o (cells (now (text .entry)) place n) ⌝ }
+{
+    let mut j = 0;
+    while j < n {
+        bytes[o + j] = byte(text, place + j);
+        j += 1;
+    }
+}
+
+// Moves the text of the part `i`, if it has one, to the bytes from `o` on. Answers the place behind it, or NOWHERE if there is no room.
+fn move_text(
+    text: &[u8],
+    codes: &[u8],
+    loads: &mut [u32],
+    i: usize,
+    bytes: &mut [u8],
+    o: usize,
+) -> usize
+    ensures { λ r. ⌜ Moves (now (text .entry)) (now (loads .entry)) (now (loads .exit)) (now (bytes .entry)) (now (bytes .exit)) i (getD (now (codes .entry)) i 0) o r ⌝ }
+{
+    if loads.len() <= i {
+        return o;
+    }
+    if !has_text(byte(codes, i)) {
+        return o;
+    }
+    let x = number(loads, i);
+    let n = x % 64;
+    if !room(bytes.len(), o, n) {
+        return NOWHERE;
+    }
+    loads[i] = (o * 64 + n) as u32;
+    copy(text, x / 64, n, bytes, o);
+    o + n
+}
+
+// Moves the texts of the parts from `from` up to `to` to the bytes from `o` on. Answers the place behind them, or one
+// that no handle leads to, NOWHERE, if there is no room.
+pub fn gather(
+    text: &[u8],
+    codes: &[u8],
+    loads: &mut [u32],
+    from: usize,
+    to: usize,
+    bytes: &mut [u8],
+    o: usize,
+) -> usize
+    ensures { λ r. ⌜ Gathers (now (text .entry)) (now (codes .entry)) (now (loads .entry)) (now (loads .exit)) (now (bytes .entry)) (now (bytes .exit)) from to o r ⌝ }
+{
+    let mut p = o;
+    let mut i = from;
+    while i < to {
+        p = move_text(text, codes, loads, i, bytes, p);
+        i += 1;
+    }
+    p
+}
