@@ -52,16 +52,16 @@ signed f (b ∷ w) = cond (eqb b 45) (below (f w)) (above (f (b ∷ w)))
 
 -- ---- as they are: nothing cut off
 
-abbrev all-digits : ℕ → List ℕ → ℕ
+abbrev pub all-digits : ℕ → List ℕ → ℕ
 all-digits n [] = n
 all-digits n (b ∷ w) = all-digits (n * 10 + (b - 48)) w
 
-abbrev all-fixed : ℕ → List ℕ → ℕ
+abbrev pub all-fixed : ℕ → List ℕ → ℕ
 all-fixed n [] = n * 1000
 all-fixed n (b ∷ w) = cond (eqb b 46) (n * 1000 + three w) (all-fixed (n * 10 + (b - 48)) w)
 
 -- n is written before w as one byte
-whole-is : (n : ℕ) (w : List ℕ) → whole ((n + 48) ∷ w) ≡ pos (all-digits n w)
+pub whole-is : (n : ℕ) (w : List ℕ) → whole ((n + 48) ∷ w) ≡ pos (all-digits n w)
 whole-is n [] = let e : 0 * 10 + (n + 48 - 48) ≡ n = omega arith in rw (ne-eqb (n + 48) 45 (λ q. omega arith)) (ap pos e)
 whole-is n (b ∷ w) =
     let m = n * 10 + (b - 48) in
@@ -73,7 +73,7 @@ abbrev before-point : List ℕ → List ℕ
 before-point [] = []
 before-point (b ∷ w) = cond (eqb b 46) [] (b ∷ before-point w)
 
-thousandths-is : (n : ℕ) (w : List ℕ) → thousandths ((n + 48) ∷ w) ≡ pos (all-fixed n w)
+pub thousandths-is : (n : ℕ) (w : List ℕ) → thousandths ((n + 48) ∷ w) ≡ pos (all-fixed n w)
 thousandths-is n [] =
     let e : (0 * 10 + (n + 48 - 48)) * 1000 + 0 ≡ n * 1000 = omega arith in
     rw (ne-eqb (n + 48) 45 (λ q. omega arith), ne-eqb (n + 48) 46 (λ q. omega arith)) (ap pos e)
@@ -95,7 +95,7 @@ at-least : (n : ℕ) (w : List ℕ) → n ≤ all-digits n w
 at-least n [] = omega arith
 at-least n (b ∷ w) = omega (arith, at-least (n * 10 + (b - 48)) w)
 
-digits-are : (n : ℕ) (w : List ℕ) → all-digits n w ≤ integer-limit → digits n w ≡ all-digits n w
+pub digits-are : (n : ℕ) (w : List ℕ) → all-digits n w ≤ integer-limit → digits n w ≡ all-digits n w
 digits-are n [] h = refl
 digits-are n (b ∷ w) h =
     let l = at-least (n * 10 + (b - 48)) w in
@@ -108,7 +108,7 @@ at-least-fixed n (b ∷ w) = ⊎-elim
     (λ (p : eqb b 46 ≡ false). rw p (omega (arith, at-least-fixed (n * 10 + (b - 48)) w)))
     (two (eqb b 46))
 
-fixed-is : (n : ℕ) (w : List ℕ) → all-fixed n w ≤ real-limit → fixed n w ≡ all-fixed n w
+pub fixed-is : (n : ℕ) (w : List ℕ) → all-fixed n w ≤ real-limit → fixed n w ≡ all-fixed n w
 fixed-is n [] h = refl
 fixed-is n (b ∷ w) h = ⊎-elim
     (λ (p : eqb b 46 ≡ true). rw p)
@@ -120,7 +120,7 @@ fixed-is n (b ∷ w) h = ⊎-elim
 
 -- ---- with their signs
 
-size-of-negative : (n : ℕ) → natAbs (negℤ (pos n)) ≡ n
+pub size-of-negative : (n : ℕ) → natAbs (negℤ (pos n)) ≡ n
 size-of-negative zero = refl
 size-of-negative (suc n) = refl
 
@@ -134,7 +134,7 @@ load-below n h = let s = size-of-negative n in ap literal (sym (moved-down n h))
 load-above : (n : ℕ) → n ≤ real-limit → literal (above n) ≡ pos n
 load-above n h = let e : n + real-limit ≡ real-limit + n = omega arith in ap literal (sym e) ∙ literal-moved (pos n) h
 
-whole-plain : (b : ℕ) (w : List ℕ) → eqb b 45 ≡ false → whole (b ∷ w) ≡ pos (all-digits 0 (b ∷ w))
+pub whole-plain : (b : ℕ) (w : List ℕ) → eqb b 45 ≡ false → whole (b ∷ w) ≡ pos (all-digits 0 (b ∷ w))
 whole-plain b w p =
     let n = b - 48 in
     let e : 0 * 10 + (n + 48 - 48) ≡ n = omega arith in
@@ -157,7 +157,7 @@ integer-load (b ∷ w) h = ⊎-elim
     rw (f, p, d) (load-above (all-digits 0 (b ∷ w)) (omega arith)))
     (two (eqb b 45))
 
-thousandths-plain : (b : ℕ) (w : List ℕ) → eqb b 45 ≡ false → thousandths (b ∷ w) ≡ pos (all-fixed 0 (b ∷ w))
+pub thousandths-plain : (b : ℕ) (w : List ℕ) → eqb b 45 ≡ false → thousandths (b ∷ w) ≡ pos (all-fixed 0 (b ∷ w))
 thousandths-plain b w p = ⊎-elim
     (λ (q : eqb b 46 ≡ true). rw (p, q))
     (λ (q : eqb b 46 ≡ false).

@@ -29,7 +29,7 @@ fn grown(n: u32, b: u8) -> u32
 }
 
 // The number that `n` digits write.
-fn digits(text: &[u8], at: usize, n: usize) -> u32
+pub fn digits(text: &[u8], at: usize, n: usize) -> u32
     requires { ⌜ at + n ≤ length (now text) ⌝ }
     ensures { λ r. ⌜ (r ≡ digitsOf 0 (cells (now (text .entry)) at n)) × (r ≤ most) ⌝ }
 {
@@ -64,7 +64,7 @@ fn three(text: &[u8], at: usize, n: usize) -> u32
 }
 
 // The thousandths that `n` digits with a point write.
-fn fixed(text: &[u8], at: usize, n: usize) -> u32
+pub fn fixed(text: &[u8], at: usize, n: usize) -> u32
     requires { ⌜ at + n ≤ length (now text) ⌝ }
     ensures { λ r. ⌜ (r ≡ fixedOf 0 (cells (now (text .entry)) at n)) × (r ≤ 2000023977) ⌝ }
 {

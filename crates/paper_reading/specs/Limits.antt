@@ -41,7 +41,7 @@ decimal-limit = 3
 
 -- ---- what they measure
 
-abbrev larger : ℕ → ℕ → ℕ
+abbrev pub larger : ℕ → ℕ → ℕ
 larger n m = cond (leb n m) m n
 
 -- "expression parts (an atom, constant, operator application, call or list is one; parentheses are none)"

@@ -72,12 +72,12 @@ type-name SetofAnything = "setof_anything"
 type-name TruthValue = "truth_value"
 
 -- the last n decimal digits of a number, zeros in front
-abbrev last-digits : ℕ → ℕ → List ℕ
+abbrev pub last-digits : ℕ → ℕ → List ℕ
 last-digits zero m = []
 last-digits (suc n) m = last-digits n (m / 10) ++ ((48 + m % 10) ∷ [])
 
 -- its decimal digits, of at most n
-abbrev digits-in : ℕ → ℕ → List ℕ
+abbrev pub digits-in : ℕ → ℕ → List ℕ
 digits-in zero m = []
 digits-in (suc n) m = cond (ltb m 10) ((48 + m) ∷ []) (digits-in n (m / 10) ++ ((48 + m % 10) ∷ []))
 
@@ -85,12 +85,12 @@ abbrev pub digits-of : ℕ → List ℕ
 digits-of m = digits-in 20 m
 
 -- with its sign
-abbrev with-sign : (ℕ → List ℕ) → ℤ → List ℕ
+abbrev pub with-sign : (ℕ → List ℕ) → ℤ → List ℕ
 with-sign f (pos n) = f n
 with-sign f (negsuc n) = 45 ∷ f (suc n)
 
 -- thousandths: the whole part, a point, three digits
-abbrev with-point : ℕ → List ℕ
+abbrev pub with-point : ℕ → List ℕ
 with-point m = digits-of (m / 1000) ++ 46 ∷ last-digits 3 m
 
 -- "Text is written bare, unknown as that word"
@@ -102,7 +102,7 @@ scalar-written (integer z) = with-sign digits-of z
 scalar-written (real z) = with-sign with-point z
 scalar-written (text s) = s
 
-abbrev more-written : List Scalar → List ℕ
+abbrev pub more-written : List Scalar → List ℕ
 more-written [] = bytes "]"
 more-written (s ∷ l) = bytes ", " ++ scalar-written s ++ more-written l
 
@@ -124,7 +124,7 @@ abbrev last-line : List ℕ → List (List ℕ)
 last-line [] = []
 last-line (b ∷ l) = (b ∷ l) ∷ []
 
-abbrev lines-from : List ℕ → List ℕ → List (List ℕ)
+abbrev pub lines-from : List ℕ → List ℕ → List (List ℕ)
 lines-from begun [] = last-line begun
 lines-from begun (b ∷ w) = cond (eqb b 10) (begun ∷ lines-from [] w) (lines-from (begun ++ (b ∷ [])) w)
 

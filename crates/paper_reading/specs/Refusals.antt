@@ -102,7 +102,7 @@ pub data Fitting (v : View) (x : Typed) : Role → Type 0 where
 
 -- ---- what breaks a stage, and at which place
 
-abbrev total-parts : List Typed → ℕ
+abbrev pub total-parts : List Typed → ℕ
 total-parts [] = 0
 total-parts (x ∷ xs) = parts (x .expression .tree) + total-parts xs
 

@@ -1,0 +1,71 @@
+-- `word`: after i turns the first i bytes are appended.
+use Prim.Native.Nat.{_≤_, _<_, _-_}
+use native.Mathlib.Numerals.{add-one}
+use lib.ListN.{length, take}
+use lib.Seq.{take-suc, take-all}
+use borrow.Author.Needs.{needs}
+use Rattle.digits.specs.Appends.{Appends, append-nothing, append-then}
+use Rattle.digits.proofs.append.word.Statement.{statement}
+use Rattle.digits.proofs.append.word.Tie as tie
+use Rattle.digits.proofs.append.word.Reads as reads
+use Rattle.digits.proofs.append.word.Lts as lts
+use Rattle.digits.proofs.append.byte.Reads as byte-reads
+
+abbrev Inv-loop : tie.InvT-loop
+Inv-loop w out₀ o p₀ i₀ out p i = (i ≤ length w) × Appends out₀ out o p (take i w)
+
+abbrev μ-loop : tie.MeasureT-loop
+μ-loop w out₀ o p₀ i₀ out p i = length w - i
+
+-- src/append.rt:22:5
+loop-holds : tie.Need-loop-holds Inv-loop μ-loop
+loop-holds c = (search needs, append-nothing _ _)
+
+-- src/append.rt:23:18
+shared-slice-read-byte : tie.Need-shared-slice-read-byte Inv-loop μ-loop
+shared-slice-read-byte c = search needs
+
+-- src/append.rt:23:9
+byte-requires : tie.Need-byte-requires Inv-loop μ-loop
+byte-requires c κs = search needs
+
+-- src/append.rt:24:9
+add-i : tie.Need-add-i Inv-loop μ-loop
+add-i c = search needs
+
+-- src/append.rt:22:5
+loop-less : tie.Need-loop-less Inv-loop μ-loop
+loop-less c = search needs
+
+-- src/append.rt:22:5
+loop-again : tie.Need-loop-again Inv-loop μ-loop
+loop-again c =
+    let l = c .before .before .before .before .before .before .loop in
+    let w = c .before .before .before .before .before .before .before .before .before .args .w .now in
+    let more : l .i < length w = search needs in
+    (search needs, rw (add-one, take-suc w (l .i) 0) (append-then (l .inv .1) (c .before .before .byte .ensures)))
+
+-- src/append.rt:17:1
+same-length : tie.Need-same-length Inv-loop μ-loop
+same-length c = search needs
+
+-- src/append.rt:17:1
+returns : tie.Need-returns Inv-loop μ-loop
+returns c =
+    let w = c .before .before .before .before .args .w .now in
+    rw (take-all (c .before .loop .i) w (c .loop-test .left)) at (c .before .loop .inv .1)
+
+pub word-spec : {M : Type 1} → statement M
+word-spec =
+    tie.close
+    (tie.spec
+    Inv-loop
+    μ-loop
+    loop-holds
+    shared-slice-read-byte
+    byte-requires
+    add-i
+    loop-less
+    loop-again
+    same-length
+    returns)

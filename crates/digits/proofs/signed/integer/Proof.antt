@@ -1,0 +1,28 @@
+-- `integer`: the sign, and then the magnitude.
+use Rattle.paper_reading.specs.Line.{digits-of}
+use Rattle.digits.specs.Appends.{append-then, appends-as}
+use Rattle.digits.specs.Signed.{sign-first}
+use borrow.Author.Needs.{needs}
+use Rattle.digits.proofs.signed.integer.Statement.{statement}
+use Rattle.digits.proofs.signed.integer.Tie as tie
+
+sign-requires : tie.Need-sign-requires
+sign-requires c κs = search needs
+
+magnitude-requires : tie.Need-magnitude-requires
+magnitude-requires c κs = search needs
+
+number-requires : tie.Need-number-requires
+number-requires c κs = search needs
+
+same-length : tie.Need-same-length
+same-length c = search needs
+
+returns : tie.Need-returns
+returns c =
+    let z = c .before .before .before .before .before .before .before .before .before .before .args .n .z in
+    appends-as (sign-first digits-of z) (append-then (c .before .before .before .before .before .before .before .sign .ensures) (rw (c .before .before .before .before .magnitude .ensures) at (c .before .before .number .ensures)))
+
+pub integer-spec : {M : Type 1} → statement M
+integer-spec =
+    tie.close (tie.spec sign-requires magnitude-requires number-requires same-length returns)

@@ -1,0 +1,35 @@
+// Numbers in decimal digits, appended to a lent buffer.
+ghost use mathlib.Core.List.{[], _∷_};
+ghost use Rattle.paper_reading.specs.Line.{digits-of, with-point};
+ghost use Rattle.digits.specs.Appends.{Appends};
+ghost use Rattle.digits.specs.Digits.{digit-of};
+use crate::append::byte;
+
+// The last digit of a number.
+fn digit(n: usize, out: &mut [u8], o: usize) -> usize
+    ensures { λ r. ⌜ Appends (now (out .entry)) (now (out .exit)) o r (digit-of n ∷ []) ⌝ }
+{
+    byte((48 + n % 10) as u8, out, o)
+}
+
+// All of its digits: those of its tenth, and the last.
+pub fn number(n: usize, out: &mut [u8], o: usize) -> usize
+    ensures { λ r. ⌜ Appends (now (out .entry)) (now (out .exit)) o r (digits-of n) ⌝ }
+{
+    if n < 10 {
+        return digit(n, out, o);
+    }
+    let p = number(n / 10, out, o);
+    digit(n, out, p)
+}
+
+// So many thousandths: the whole part, a point, three digits.
+pub fn thousandths(n: usize, out: &mut [u8], o: usize) -> usize
+    ensures { λ r. ⌜ Appends (now (out .entry)) (now (out .exit)) o r (with-point n) ⌝ }
+{
+    let whole = number(n / 1000, out, o);
+    let point = byte(b'.', out, whole);
+    let first = digit(n / 10 / 10, out, point);
+    let second = digit(n / 10, out, first);
+    digit(n, out, second)
+}

@@ -1,0 +1,74 @@
+-- `left_out`: no token before the one at hand fails the test.
+use mathlib.Core.Path.{_≡_, sym, subst, _∙_}
+use mathlib.Core.Bool.{true, false}
+use Prim.Native.Nat.{ℕ, _-_, _≤_, _<_}
+use native.Mathlib.Omega.{arith}
+use lib.ListN.{length}
+use borrow.Author.Count.{below-none, below-more}
+use Rattle.paper_reading.specs.LeftOut.{LeftOut}
+use Rattle.leaves.specs.Source.{source}
+use Rattle.token_tests.specs.declared.Found.the-variants.{At}
+use Rattle.token_tests.specs.Reply.{First}
+use Rattle.token_tests.specs.Walk.{first-is, none-is}
+use Rattle.token_tests.specs.LeftOutTest.{left-out-at, decides}
+use borrow.Author.Needs.{needs}
+use Rattle.token_tests.proofs.left_out.Statement.{statement}
+use Rattle.token_tests.proofs.left_out.Tie as tie
+
+abbrev Inv-loop : tie.InvT-loop
+Inv-loop text kinds places lengths i₀ i = (i ≤ length kinds) × ((j : ℕ) → j < i → left-out-at (source text kinds places lengths) j ≡ false)
+
+abbrev μ-loop : tie.MeasureT-loop
+μ-loop text kinds places lengths i₀ i = length kinds - i
+
+loop-holds : tie.Need-loop-holds Inv-loop μ-loop
+loop-holds c = (omega arith, below-none _)
+
+left-out-at-requires : tie.Need-left-out-at-requires Inv-loop μ-loop
+left-out-at-requires c κs = search needs
+
+cell-requires : tie.Need-cell-requires Inv-loop μ-loop
+cell-requires c κs = search needs
+
+returns : tie.Need-returns Inv-loop μ-loop
+returns c =
+    let a = c .before .before .before .before .before .before .before .before .before .args in
+    let l = c .before .before .before .before .loop in
+    let s = source (a .text .now) (a .kinds .now) (a .places .now) (a .lengths .now) in
+    let y : left-out-at s (l .i) ≡ true = sym (c .before .before .left-out-at .ensures) ∙ c .before .if1 .taken in
+    subst (λ (p : ℕ). First LeftOut s (At p)) (sym (c .cell .ensures)) (first-is decides s (l .i) (c .before .before .before .loop-test .taken) (l .inv .1) y)
+
+add-i : tie.Need-add-i Inv-loop μ-loop
+add-i c = search needs
+
+loop-less : tie.Need-loop-less Inv-loop μ-loop
+loop-less c = search needs
+
+loop-again : tie.Need-loop-again Inv-loop μ-loop
+loop-again c =
+    let a = c .before .before .before .before .before .before .before .before .args in
+    let l = c .before .before .before .loop in
+    let y : left-out-at (source (a .text .now) (a .kinds .now) (a .places .now) (a .lengths .now)) (l .i) ≡ false = sym (c .before .left-out-at .ensures) ∙ c .if1 .left in
+    (omega arith, below-more _ _ (l .inv .1) y)
+
+returns-2 : tie.Need-returns-2 Inv-loop μ-loop
+returns-2 c =
+    let a = c .before .before .before .before .before .before .args in
+    let e = c .loop-test .left in
+    let l = c .before .loop in
+    none-is decides (source (a .text .now) (a .kinds .now) (a .places .now) (a .lengths .now)) (λ j h. l .inv .1 j (omega arith))
+
+pub left-out-spec : {M : Type 1} → statement M
+left-out-spec =
+    tie.close
+    (tie.spec
+    Inv-loop
+    μ-loop
+    loop-holds
+    left-out-at-requires
+    cell-requires
+    returns
+    add-i
+    loop-less
+    loop-again
+    returns-2)

@@ -1,0 +1,69 @@
+-- `left_out_at`: the test is of the token's bytes, where they are inside the text.
+use mathlib.Core.Path.{_≡_, sym, _∙_}
+use Prim.Native.Nat.{_+_}
+use lib.ListN.{getD}
+use Rattle.paper_reading.specs.FormsLaws.{contra}
+use Rattle.parts.specs.Texts.{cells}
+use Rattle.leaves.specs.Source.{source}
+use Rattle.token_tests.specs.Walk.{of-inside, of-outside}
+use Rattle.token_tests.specs.LeftOutTest.{left-out-test}
+use borrow.Author.Needs.{needs}
+use Rattle.token_tests.proofs.left_out_at.Statement.{statement}
+use Rattle.token_tests.proofs.left_out_at.Tie as tie
+
+cell-requires : tie.Need-cell-requires
+cell-requires c κs = search needs
+
+cell-requires-2 : tie.Need-cell-requires-2
+cell-requires-2 c κs = search needs
+
+fits-requires : tie.Need-fits-requires
+fits-requires c κs = search needs
+
+byte-requires : tie.Need-byte-requires
+byte-requires c κs = search needs
+
+add-byte : tie.Need-add-byte
+add-byte c = search needs
+
+byte-requires-2 : tie.Need-byte-requires-2
+byte-requires-2 c κs = search needs
+
+is-left-out-requires : tie.Need-is-left-out-requires
+is-left-out-requires c κs = c .before .before .before .fits2 .ensures .0 (c .before .before .if1 .taken)
+
+returns : tie.Need-returns
+returns c =
+    let a = c .before .before .before .before .before .before .before .before .before .before .before .args in
+    let at = c .before .before .before .before .before .before .cell in
+    let n = c .before .before .before .before .before .cell2 in
+    let s = source (a .text .now) (a .kinds .now) (a .places .now) (a .lengths .now) in
+    let w = cells (a .text .now) (at .result) (n .result) in
+    let k = getD (a .kinds .now) (a .i) 0 in
+    let next = getD (a .kinds .now) (a .i + 1) 0 in
+    let e : left-out-test (c .before .before .byte .result) (c .before .byte2 .result) w ≡ left-out-test k next w = rw (c .before .before .byte .ensures, c .before .byte2 .ensures) in
+    c .is-left-out .ensures ∙ e
+    ∙ sym (of-inside s (a .i) (left-out-test k next) (at .result) (n .result) (at .ensures) (n .ensures) (c .before .before .before .before .fits2 .ensures .0 (c .before .before .before .if1 .taken)))
+
+returns-2 : tie.Need-returns-2
+returns-2 c =
+    let a = c .before .before .before .before .before .before .before .before .args in
+    let at = c .before .before .before .cell in
+    let n = c .before .before .cell2 in
+    let s = source (a .text .now) (a .kinds .now) (a .places .now) (a .lengths .now) in
+    sym (of-outside s (a .i) (left-out-test (getD (a .kinds .now) (a .i) 0) (getD (a .kinds .now) (a .i + 1) 0)) (at .result) (n .result) (at .ensures) (n .ensures)
+    (λ h. contra (sym (c .if1 .left) ∙ c .before .fits2 .ensures .1 h)))
+
+pub left-out-at-spec : {M : Type 1} → statement M
+left-out-at-spec =
+    tie.close
+    (tie.spec
+    cell-requires
+    cell-requires-2
+    fits-requires
+    byte-requires
+    add-byte
+    byte-requires-2
+    is-left-out-requires
+    returns
+    returns-2)

@@ -1,0 +1,5 @@
+pub mod Reply
+pub mod Walk
+pub mod Exponent
+pub mod LeftOutTest
+pub mod LimitTest

@@ -1,0 +1,72 @@
+-- `more`: before turn i the elements from i on are left, and the bracket.
+use mathlib.Core.Path.{_≡_}
+use Prim.Native.Nat.{_≤_, _<_, _-_}
+use native.Mathlib.Omega.{arith}
+use lib.ListN.{drop, length}
+use Rattle.paper_expressions.specs.Limits.{list-limit}
+use Rattle.paper_reading.specs.Line.{more-written}
+use Rattle.values.specs.Meaning.{meaningL, sizeOf}
+use Rattle.digits.specs.Appends.{Begun, begun-none, begun-more, begun-all}
+use Rattle.written.specs.Lists.{more-step, more-end}
+use borrow.Author.Needs.{needs}
+use Rattle.written.proofs.lists.more.Statement.{statement}
+use Rattle.written.proofs.lists.more.Tie as tie
+
+abbrev Inv-loop : tie.InvT-loop
+Inv-loop bytes l out₀ o n p₀ i₀ out p i =
+    (n ≡ sizeOf l) × (n ≤ list-limit) × (length out ≡ length out₀) × Begun out₀ out o p (more-written (drop i (meaningL bytes l))) (more-written (drop 1 (meaningL bytes l)))
+
+abbrev μ-loop : tie.MeasureT-loop
+μ-loop bytes l out₀ o n p₀ i₀ out p i = n - i
+
+size-requires : tie.Need-size-requires Inv-loop μ-loop
+size-requires c κs = search needs
+
+loop-holds : tie.Need-loop-holds Inv-loop μ-loop
+loop-holds c = (search needs, search needs, search needs, begun-none _ _ _)
+
+element-requires : tie.Need-element-requires Inv-loop μ-loop
+element-requires c κs = search needs
+
+add-i : tie.Need-add-i Inv-loop μ-loop
+add-i c = search needs
+
+loop-less : tie.Need-loop-less Inv-loop μ-loop
+loop-less c = search needs
+
+loop-again : tie.Need-loop-again Inv-loop μ-loop
+loop-again c =
+    let a = c .before .before .before .before .before .before .before .before .before .args in
+    let l = c .before .before .before .before .before .loop in
+    let e = c .before .before .element .ensures in
+    let more : l .i < sizeOf (a .l) = omega arith in
+    (search needs, search needs, search needs, begun-more (rw (more-step (a .bytes .now) (a .l) (l .i) more) at (l .inv .3)) e)
+
+byte-requires : tie.Need-byte-requires Inv-loop μ-loop
+byte-requires c κs = search needs
+
+same-length : tie.Need-same-length Inv-loop μ-loop
+same-length c = search needs
+
+returns : tie.Need-returns Inv-loop μ-loop
+returns c =
+    let a = c .before .before .before .before .before .before .before .before .before .args in
+    let l = c .before .before .before .before .before .loop in
+    let done : sizeOf (a .l) ≤ l .i = omega arith in
+    begun-all (rw (more-end (a .bytes .now) (a .l) (l .i) done) at (l .inv .3)) (c .before .before .byte .ensures)
+
+pub more-spec : {M : Type 1} → statement M
+more-spec =
+    tie.close
+    (tie.spec
+    Inv-loop
+    μ-loop
+    size-requires
+    loop-holds
+    element-requires
+    add-i
+    loop-less
+    loop-again
+    byte-requires
+    same-length
+    returns)
