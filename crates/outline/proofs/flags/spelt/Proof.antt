@@ -1,0 +1,31 @@
+-- `spelt`: a token's bytes stand in the text, and its name inside its quotes.
+use mathlib.Core.Path.{sym, _∙_}
+use native.Mathlib.Omega.{arith}
+use Rattle.paper_reading.specs.LlLaws.{contra}
+use Rattle.outline.specs.Flags.{spelt-there}
+use borrow.Author.Needs.{needs}
+use Rattle.outline.proofs.flags.spelt.Statement.{statement}
+use Rattle.outline.proofs.flags.spelt.Tie as tie
+
+cell-requires : tie.Need-cell-requires
+cell-requires c κs = search needs
+
+cell-requires-2 : tie.Need-cell-requires-2
+cell-requires-2 c κs = search needs
+
+fits-requires : tie.Need-fits-requires
+fits-requires c κs = search needs
+
+inside-requires : tie.Need-inside-requires
+inside-requires c κs = (c .before .fits2) .ensures .0 ((c .if1) .taken)
+
+returns : tie.Need-returns
+returns c = record { inside = (c .inside) .ensures .1; done = λ t s. spelt-there _ _ _ ((c .before .before .before .before .cell) .ensures) ((c .before .before .before .cell2) .ensures) ((c .inside) .ensures .0) s }
+
+returns-2 : tie.Need-returns-2
+returns-2 c = record { inside = omega arith; done = λ t s. contra (sym ((c .if1) .left) ∙ (c .before .fits2) .ensures .1 (let w = s .within in let a = (c .before .before .before .cell) .ensures in let b = (c .before .before .cell2) .ensures in omega arith)) }
+
+pub spelt-spec : {M : Type 1} → statement M
+spelt-spec =
+    tie.close
+    (tie.spec cell-requires cell-requires-2 fits-requires inside-requires returns returns-2)

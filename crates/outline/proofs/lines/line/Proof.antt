@@ -1,0 +1,92 @@
+-- `line`: the letter of its first token tells what it is.
+use mathlib.Core.Path.{sym, ap, subst}
+use Rattle.outline.specs.Flat.{end-line}
+use Rattle.outline.specs.Made.{Passes}
+use Rattle.outline.specs.TurnLaws.{by-kind, told, of-letter, line-end, end-passes}
+use borrow.Author.Needs.{needs}
+use Rattle.outline.proofs.lines.line.Statement.{statement}
+use Rattle.outline.proofs.lines.line.Tie as tie
+
+kind-at-requires : tie.Need-kind-at-requires
+kind-at-requires c κs = search needs
+
+shape-requires : tie.Need-shape-requires
+shape-requires c κs = search needs
+
+task-requires : tie.Need-task-requires
+task-requires c κs = search needs
+
+data-item-requires : tie.Need-data-item-requires
+data-item-requires c κs = search needs
+
+expression-requires : tie.Need-expression-requires
+expression-requires c κs = search needs
+
+name-requires : tie.Need-name-requires
+name-requires c κs = search needs
+
+answer-requires : tie.Need-answer-requires
+answer-requires c κs = search needs
+
+constraint-requires : tie.Need-constraint-requires
+constraint-requires c κs = search needs
+
+postcondition-requires : tie.Need-postcondition-requires
+postcondition-requires c κs = search needs
+
+add-on : tie.Need-add-on
+add-on c = search needs
+
+on-requires : tie.Need-on-requires
+on-requires c κs = search needs
+
+returns : tie.Need-returns
+returns c = by-kind ((c .before .before .before .kind-at) .result) ((c .before .before .before .kind-at) .ensures) (told ((c .before .before .before .kind-at) .result) ((c .before .before .shape) .ensures) (ap of-letter ((c .before .match) .keys1))) ((c .task) .ensures)
+
+returns-2 : tie.Need-returns-2
+returns-2 c = by-kind ((c .before .before .before .kind-at) .result) ((c .before .before .before .kind-at) .ensures) (told ((c .before .before .before .kind-at) .result) ((c .before .before .shape) .ensures) (ap of-letter ((c .before .match) .keys2))) ((c .data-item) .ensures)
+
+returns-3 : tie.Need-returns-3
+returns-3 c = by-kind ((c .before .before .before .kind-at) .result) ((c .before .before .before .kind-at) .ensures) (told ((c .before .before .before .kind-at) .result) ((c .before .before .shape) .ensures) (ap of-letter ((c .before .match) .keys3))) ((c .expression) .ensures)
+
+returns-4 : tie.Need-returns-4
+returns-4 c = by-kind ((c .before .before .before .kind-at) .result) ((c .before .before .before .kind-at) .ensures) (told ((c .before .before .before .kind-at) .result) ((c .before .before .shape) .ensures) (ap of-letter ((c .before .match) .keys4))) ((c .name) .ensures)
+
+returns-5 : tie.Need-returns-5
+returns-5 c = by-kind ((c .before .before .before .kind-at) .result) ((c .before .before .before .kind-at) .ensures) (told ((c .before .before .before .kind-at) .result) ((c .before .before .shape) .ensures) (ap of-letter ((c .before .match) .keys5))) ((c .answer) .ensures)
+
+returns-6 : tie.Need-returns-6
+returns-6 c = by-kind ((c .before .before .before .kind-at) .result) ((c .before .before .before .kind-at) .ensures) (told ((c .before .before .before .kind-at) .result) ((c .before .before .shape) .ensures) (ap of-letter ((c .before .match) .keys6))) ((c .constraint) .ensures)
+
+returns-7 : tie.Need-returns-7
+returns-7 c = by-kind ((c .before .before .before .kind-at) .result) ((c .before .before .before .kind-at) .ensures) (told ((c .before .before .before .kind-at) .result) ((c .before .before .shape) .ensures) (ap of-letter ((c .before .match) .keys7))) ((c .postcondition) .ensures)
+
+returns-8 : tie.Need-returns-8
+returns-8 c =
+    let r = (c .before .match) .rest in
+    by-kind ((c .before .before .before .kind-at) .result) ((c .before .before .before .kind-at) .ensures) (told ((c .before .before .before .kind-at) .result) ((c .before .before .shape) .ensures) (line-end _ (r .0 .0 .0 .0 .0 .0 .1) (r .0 .0 .0 .0 .0 .1) (r .0 .0 .0 .0 .1) (r .0 .0 .0 .1) (r .0 .0 .1) (r .0 .1) (r .1)))
+    (subst (Passes end-line _ _) (sym ((c .on) .ensures)) end-passes)
+
+pub line-spec : {M : Type 1} → statement M
+line-spec =
+    tie.close
+    (tie.spec
+    kind-at-requires
+    shape-requires
+    task-requires
+    data-item-requires
+    expression-requires
+    name-requires
+    answer-requires
+    constraint-requires
+    postcondition-requires
+    add-on
+    on-requires
+    returns
+    returns-2
+    returns-3
+    returns-4
+    returns-5
+    returns-6
+    returns-7
+    returns-8)

@@ -1,0 +1,11 @@
+pub mod Rows
+pub mod Flat
+pub mod FlatLaws
+pub mod Flags
+pub mod Table
+pub mod Made
+pub mod Brackets
+pub mod TurnLaws
+pub mod TableLaws
+pub mod LoopLaws
+pub mod Worked

@@ -1,0 +1,115 @@
+-- What the tests from the grammar to the limits have to find: each test alone, and all in their order. Definitions only.
+use Prim.Native.Nat.{ℕ, _+_, _*_, _≤_, _<_}
+use mathlib.Core.Path.{_≡_}
+use mathlib.Core.Bool.{Bool, true, false}
+use mathlib.Core.Option.{Option, none, some}
+use mathlib.Core.List.{List}
+use lib.ListN.{length, getD}
+use Rattle.paper_reading.specs.Limits.{token-limit, task-limit, data-item-limit, part-limit, assignment-limit, source-limit}
+use Rattle.paper_reading.specs.Nonterminals.{⟨process⟩}
+use Rattle.paper_reading.specs.Guideline.{Sentence-of, First-bad}
+use Rattle.paper_reading.specs.Lexical as Lexical
+use Rattle.paper_reading.specs.Terminals.{Terminals}
+use Rattle.paper_reading.specs.Structure.{TopLevel, Structure}
+use Rattle.paper_reading.specs.Refusals as Refusals
+use Refusals.{Stage, turn, Breach}
+use Rattle.leaves.specs.Source.{source, Stand}
+use Rattle.outline.specs.Rows.{flatten}
+use Rattle.outline.specs.Made.{Outline, row-cells}
+use Rattle.survey.specs.declared.Totals.{Totals}
+use Rattle.survey.specs.Surveyed.{Surveyed}
+use Rattle.token_tests.specs.declared.Found.{Found}
+use Rattle.token_tests.specs.declared.Found.the-variants.{At, Nowhere}
+use Rattle.stages.specs.declared.Verdict.{Verdict}
+use Rattle.stages.specs.declared.Verdict.the-variants.{Fine, Refused}
+use Rattle.stages.specs.Least.{Least}
+use Rattle.stages.specs.Stages.{Passed}
+use Rattle.stages.specs.Limits.{Over}
+
+-- the columns stand for the tokens of the text, and it passes 1, 2 and 6 for tokens and brackets
+pub record Lexed (text kinds places lengths : List ℕ) : Type 0 where
+  pub tokens : List Lexical.Token
+  pub its : Lexical.Tokens text 0 tokens
+  pub are : Terminals tokens kinds
+  pub stand : Stand (source text kinds places lengths) 0 tokens
+  pub passed : (s : Stage) (q : ℕ) → turn s ≤ 2 → ¬ Breach ⊥ text s q
+
+-- a place, or none
+abbrev pub spot : Found → Option ℕ
+spot (At p) = some p
+spot Nowhere = none
+
+-- ---- 3
+
+pub record Places (text kinds places : List ℕ) (i r : ℕ) : Type 0 where
+  pub inside : i < length kinds → r ≡ getD places i 0
+  pub behind : length kinds ≤ i → r ≡ length text
+
+-- the i-th token is the first bad one, and stands at p
+pub record BadAt (text kinds places : List ℕ) (p : ℕ) : Type 0 where
+  pub index : ℕ
+  pub bad : First-bad ⟨process⟩ kinds index
+  pub place : Places text kinds places index p
+
+abbrev pub Sentences : List ℕ → List ℕ → List ℕ → Found → Type 0
+Sentences text kinds places (At p) = length kinds ≤ token-limit → BadAt text kinds places p
+Sentences text kinds places Nowhere = Sentence-of ⟨process⟩ kinds
+
+-- ---- 6
+
+abbrev pub Large : Totals → Found → Type 0
+Large t (At p) = (t .large ≡ true) × (p ≡ t .place)
+Large t Nowhere = t .large ≡ false
+
+pub data SomeOver (t : Totals) (short : Bool) : Type 0 where
+  tasks : task-limit < t .tasks → SomeOver t short
+  items : data-item-limit < t .items → SomeOver t short
+  parts : part-limit < t .parts → SomeOver t short
+  assignments : assignment-limit < t .assignments → SomeOver t short
+  sources : source-limit < t .sources → SomeOver t short
+  tables : short ≡ true → SomeOver t short
+
+pub record NoneOver (t : Totals) (short : Bool) : Type 0 where
+  pub tasks : t .tasks ≤ task-limit
+  pub items : t .items ≤ data-item-limit
+  pub parts : t .parts ≤ part-limit
+  pub assignments : t .assignments ≤ assignment-limit
+  pub sources : t .sources ≤ source-limit
+  pub tables : short ≡ false
+
+abbrev pub AnyOver : Totals → Bool → Bool → Type 0
+AnyOver t short true = SomeOver t short
+AnyOver t short false = NoneOver t short
+
+abbrev pub Whole : List ℕ → Totals → Bool → Found → Type 0
+Whole text t short (At p) = SomeOver t short × (p ≡ length text)
+Whole text t short Nowhere = NoneOver t short
+
+abbrev pub OverLimits : List ℕ → List ℕ → List ℕ → List ℕ → Totals → Bool → Found → Type 0
+OverLimits text kinds places lengths t short r =
+    (ts : List Lexical.Token) (g : List TopLevel) (its : Lexical.Tokens text 0 ts) → Stand (source text kinds places lengths) 0 ts → (s : Structure ts g) → Surveyed g t
+    → Least (Over (short ≡ true) text its s) (spot r)
+
+-- ---- the whole
+
+-- the rows x of an accepted text hold its structure, and it passes all stages up to the limits
+pub record Judged (text kinds places lengths x : List ℕ) (short : Bool) (n : ℕ) : Type 0 where
+  pub tokens : List Lexical.Token
+  pub its : Lexical.Tokens text 0 tokens
+  pub stand : Stand (source text kinds places lengths) 0 tokens
+  pub guideline : List TopLevel
+  pub structure : Structure tokens guideline
+  pub outline : Outline (source text kinds places lengths) x n (flatten guideline)
+  pub passed : Passed (short ≡ true) text 5
+
+abbrev pub Outcome : List ℕ → List ℕ → List ℕ → List ℕ → List ℕ → Bool → Verdict → Type 0
+Outcome text kinds places lengths x short (Fine n) = Judged text kinds places lengths x short n
+Outcome text kinds places lengths x short (Refused n p) = Refusals.Refused (short ≡ true) text n p
+
+-- the same, where the tokens are a guideline of which nothing is left out
+pub record Limited (text kinds places lengths x y : List ℕ) (short : Bool) (r : Verdict) : Type 0 where
+  pub outcome : (l : Lexed text kinds places lengths) (g : List TopLevel) → Structure (l .tokens) g → row-cells ≤ length x → Passed (short ≡ true) text 4
+      → Outcome text kinds places lengths y short r
+
+pub record Judges (text kinds places lengths x y : List ℕ) (short : Bool) (r : Verdict) : Type 0 where
+  pub outcome : Lexed text kinds places lengths → row-cells ≤ length x → Outcome text kinds places lengths y short r

@@ -1,0 +1,5 @@
+pub mod Tally
+pub mod TallyLaws
+pub mod Surveyed
+pub mod LoopLaws
+pub mod SurveyLaws
