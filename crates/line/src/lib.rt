@@ -1,0 +1,63 @@
+// The small program's answer to one line: the bytes that it writes behind the line's number.
+// First the tests, stage by stage; then the type and the value.
+mod tests;
+mod valued;
+
+use limits::TokenList;
+use tests::Verdict;
+use tokens::Read;
+ghost use mathlib.Core.Path.{_≡_};
+ghost use lib.ListN.{length, replicate};
+ghost use Rattle.line.specs.Reply.{Reply, Answered};
+ghost use Rattle.line.specs.Steps.{Blank, Lexed};
+
+// No answer has more bytes.
+const ANSWER: usize = 1_024;
+
+// All zero.
+fn clear(out: &mut [u8])
+    ensures { λ _. ⌜ now (out .exit) ≡ replicate (length (now (out .entry))) 0 ⌝ }
+{
+    let mut i = 0;
+    while i < out.len() {
+        out[i] = 0;
+        i += 1;
+    }
+}
+
+// The tests on the tokens, and then the value.
+fn tested(line: &[u8], kinds: &[u8], places: &[usize], lengths: &[usize], out: &mut [u8]) -> usize
+    requires { ⌜ Lexed (now line) (now kinds) (now places) (now lengths) ⌝ }
+    requires { ⌜ Blank (now out) ⌝ }
+    ensures { λ r. ⌜ Answered (now (line .entry)) (length (now (out .entry))) (now (out .exit)) r ⌝ }
+{
+    match tests::parse(line, kinds, places, lengths) {
+        Verdict::Refused(n) => {
+            return written::refused(n, out, 0);
+        }
+        Verdict::Fine => {}
+    }
+    match tests::fit(line, kinds, places, lengths) {
+        Verdict::Refused(n) => written::refused(n, out, 0),
+        Verdict::Fine => valued::evaluate(line, kinds, places, lengths, out),
+    }
+}
+
+// The answer to a line, its bytes from the first cell on and zeros behind them; how many bytes it has.
+// Where an answer may have more bytes than there are cells, none is given.
+pub fn answer(line: &[u8], out: &mut [u8]) -> usize
+    ensures { λ r. ⌜ Reply (now (line .entry)) (length (now (out .entry))) (now (out .exit)) r ⌝ }
+{
+    clear(out);
+    if out.len() < ANSWER {
+        return 0;
+    }
+    let mut kinds = [0u8; TokenList::LIMIT];
+    let mut places = [0usize; TokenList::LIMIT];
+    let mut lengths = [0usize; TokenList::LIMIT];
+    match tokens::tokens(line, &mut kinds, &mut places, &mut lengths) {
+        Read::Short => 0,
+        Read::Refused(n, _) => written::refused(n, out, 0),
+        Read::Tokens(n) => tested(line, &kinds[..n], &places, &lengths, out),
+    }
+}

@@ -1,0 +1,59 @@
+// The tests on the tokens of a line: the grammar, what is left out, the limits.
+use grammar::Answer;
+use grammar::Start;
+use limits::Expression;
+use limits::Expressions;
+use token_tests::Found;
+use values::List;
+ghost use Rattle.line.specs.Steps.{Lexed, Parsed, Parses, Fits};
+
+// What the tests find: nothing, or the number of the refusal.
+pub enum Verdict {
+    Fine,
+    Refused(u8),
+}
+
+// Refusals 3 and 10: the tokens are no expression, or use something left out.
+pub fn parse(line: &[u8], kinds: &[u8], places: &[usize], lengths: &[usize]) -> Verdict
+    requires { ⌜ Lexed (now line) (now kinds) (now places) (now lengths) ⌝ }
+    ensures { λ r. ⌜ Parses (now (line .entry)) (now (kinds .entry)) (now (places .entry)) (now (lengths .entry)) r ⌝ }
+{
+    let mut labels = [0u8; 1];
+    match grammar::read(kinds, Start::Expression, &mut labels) {
+        Answer::Accepted => {}
+        Answer::Refused(_) => {
+            return Verdict::Refused(3);
+        }
+        Answer::Unread => {
+            return Verdict::Refused(3);
+        }
+    }
+    match token_tests::left_out(line, kinds, places, lengths) {
+        Found::At(_) => Verdict::Refused(10),
+        Found::Nowhere => Verdict::Fine,
+    }
+}
+
+// Refusal 6: a token, the depth, a list or the number of parts is past its limit.
+pub fn fit(line: &[u8], kinds: &[u8], places: &[usize], lengths: &[usize]) -> Verdict
+    requires { ⌜ Parsed (now line) (now kinds) (now places) (now lengths) ⌝ }
+    ensures { λ r. ⌜ Fits (now (line .entry)) (now (kinds .entry)) (now (places .entry)) (now (lengths .entry)) r ⌝ }
+{
+    match token_tests::past_limit(line, kinds, places, lengths) {
+        Found::At(_) => {
+            return Verdict::Refused(6);
+        }
+        Found::Nowhere => {}
+    }
+    let m = measure::measure(kinds, 0, false);
+    if Expression::DEPTH < m.depth {
+        return Verdict::Refused(6);
+    }
+    if List::LIST_LIMIT < m.longest {
+        return Verdict::Refused(6);
+    }
+    if Expressions::PARTS < m.parts {
+        return Verdict::Refused(6);
+    }
+    Verdict::Fine
+}

@@ -1,0 +1,30 @@
+-- `sheet::step` is safe, and goes on: what it writes leaves the place as it is.
+use Prim.Native.Nat.{_<_}
+use native.Mathlib.Omega.{arith}
+use lib.ListN.{length}
+use borrow.Author.Needs.{needs}
+use Rattle.sheet.proofs.step.Statement.{statement}
+use Rattle.sheet.proofs.step.Tie as tie
+
+room-requires : tie.Need-room-requires
+room-requires c κs = search needs
+
+step-requires : tie.Need-step-requires
+step-requires c κs = search needs
+
+same-length : tie.Need-same-length
+same-length c = search needs
+
+same-length-2 : tie.Need-same-length-2
+same-length-2 c = search needs
+
+returns : tie.Need-returns
+returns c h =
+    let r = c .before .before .before .before .before .before .before .room in
+    let same = r .ensures .at in
+    let l : r .result .at < length (c .before .before .before .before .before .before .before .before .before .before .before .before .args .chunk .now) = omega arith in
+    let on = c .before .before .before .before .step .ensures .onward l in
+    omega arith
+
+pub step-spec : {M : Type 1} → statement M
+step-spec = tie.close (tie.spec room-requires step-requires same-length same-length-2 returns)
