@@ -2,11 +2,8 @@
 use Prim.Native.Nat.{ℕ, suc, _≤_, _<_}
 use native.Mathlib.Omega.{arith}
 use mathlib.Core.Path.{_≡_, refl, ap}
-use mathlib.Core.Bool.{true, false, cond}
 use mathlib.Core.Logic.{⊎-elim}
 use mathlib.Core.List.{List, [], _∷_}
-use lib.Dec.{leb}
-use borrow.Author.Tests.{leb-true, leb-false}
 use Rattle.paper_expressions.specs.Limits.{list-limit}
 use Rattle.paper_expressions.specs.View.{At, at-first, at-later}
 use Rattle.paper_expressions.specs.Expressions.{Expr, Exprs, ε, _▸_}
@@ -16,21 +13,18 @@ use Rattle.paper_reading.specs.Lexical.{Token}
 use Rattle.paper_reading.specs.Tree
 use Tree.{Where, Tree, infix-operator, looser, unary-minus, an-atom, an-integer, a-float, a-string, parentheses, a-list, a-call, empty, nonempty, last, then-more}
 use Rattle.paper_reading.specs.TreeLaws.{Each, all, _&_}
-use Rattle.paper_reading.specs.LlLaws.{two}
-use Rattle.paper_reading.specs.Limits.{count, longest-list, longest-lists}
+use Rattle.paper_reading.specs.Limits.{larger, count, longest-list, longest-lists}
 use Rattle.paper_reading.specs.Refusals.{TokenBreach, long-name, long-text, large-integer, large-real}
+use Rattle.measure.specs.Larger.{first-larger, second-larger}
 use Rattle.paper_reading.specs.RefusalLaws.{le-or-gt}
 
 -- ---- the larger of two numbers
 
-abbrev larger : ℕ → ℕ → ℕ
-larger n m = cond (leb n m) m n
-
 first-within : (n m : ℕ) {l : ℕ} → larger n m ≤ l → n ≤ l
-first-within n m h = ⊎-elim (λ (e : leb n m ≡ true). let g = leb-true n m e in let k = rw e at h in omega arith) (λ (e : leb n m ≡ false). rw e at h) (two (leb n m))
+first-within n m h = let k = first-larger n m in omega arith
 
 second-within : (n m : ℕ) {l : ℕ} → larger n m ≤ l → m ≤ l
-second-within n m h = ⊎-elim (λ (e : leb n m ≡ true). rw e at h) (λ (e : leb n m ≡ false). let g = leb-false n m e in let k = rw e at h in omega arith) (two (leb n m))
+second-within n m h = let k = second-larger n m in omega arith
 
 as-many : (es : Exprs) → Within.size es ≡ count es
 as-many ε = refl

@@ -54,6 +54,13 @@ rows =
     ∷ ("d != d" ↝ gives TruthValue (one (truth false)))
     ∷ ("[d, 1] < [5, 2]" ↝ refused 5)
     ∷ ("if(d = 1, 2, 3)" ↝ refused 5)
+    -- the edges: literals, digits behind the point, list elements
+    ∷ ("2000000" ↝ gives Integer (one (integer (pos 2000000))))
+    ∷ ("2000001" ↝ refused 6)
+    ∷ ("0.125" ↝ gives Real (one (real (pos 125))))
+    ∷ ("0.1250" ↝ refused 6)
+    ∷ ("count([1,2,3,4,5,6,7,8,9,10,11,12,13,14,15,16])" ↝ gives Integer (one (integer (pos 16))))
+    ∷ ("count([1,2,3,4,5,6,7,8,9,10,11,12,13,14,15,16,17])" ↝ refused 6)
     ∷ []
 
 -- each line has its answer, and no other

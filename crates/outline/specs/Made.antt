@@ -88,6 +88,8 @@ pub record Given (c : Source) (l : ℕ) (ts : List Token) (g : List TopLevel) : 
 
 pub record Outlines (c : Source) (x y : List ℕ) (r : Outlined) : Type 0 where
   pub long : length y ≡ length x
+  -- what stands behind the rows stays
+  pub rest : r .ok ≡ true → (j : ℕ) → r .n * 8 ≤ j → getD y j 0 ≡ getD x j 0
   pub done : (ts : List Token) (g : List TopLevel) → Given c (length x) ts g → (r .ok ≡ true) × Outline c y (r .n) (flatten g)
 
 -- ---- one turn

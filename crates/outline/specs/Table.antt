@@ -19,6 +19,7 @@ pub record Four (x y : List ℕ) (i a b c d : ℕ) : Type 0 where
   pub third : getD y (i + 2) 0 ≡ c
   pub fourth : getD y (i + 3) 0 ≡ d
   pub kept : (j : ℕ) → j < i → getD y j 0 ≡ getD x j 0
+  pub beyond : (j : ℕ) → i + 4 ≤ j → getD y j 0 ≡ getD x j 0
 
 -- the row n of y is what was passed, and those before are kept
 pub record Put (x y : List ℕ) (n : ℕ) (t : Passed) : Type 0 where
@@ -34,5 +35,7 @@ pub record Put (x y : List ℕ) (n : ℕ) (t : Passed) : Type 0 where
 
 pub record Puts (x y : List ℕ) (n : ℕ) (t : Passed) (r : Wrote) : Type 0 where
   pub long : length y ≡ length x
+  pub up : n ≤ r .n
+  pub beyond : (j : ℕ) → r .n * 8 ≤ j → getD y j 0 ≡ getD x j 0
   pub none : t .row ≡ false → (r .ok ≡ true) × (r .n ≡ n) × (y ≡ x)
   pub one : t .row ≡ true → n * 8 + 8 ≤ length x → (r .ok ≡ true) × (r .n ≡ n + 1) × Put x y n t

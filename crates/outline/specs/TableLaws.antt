@@ -38,6 +38,9 @@ four-set x i a b c d h =
       kept = λ j b′.
           getD-set-other x₃ (i + 3) j d 0 (λ e. omega arith) ∙ getD-set-other x₂ (i + 2) j c 0 (λ e. omega arith)
           ∙ getD-set-other x₁ (i + 1) j b 0 (λ e. omega arith) ∙ getD-set-other x i j a 0 (λ e. omega arith);
+      beyond = λ j b′.
+          getD-set-other x₃ (i + 3) j d 0 (λ e. omega arith) ∙ getD-set-other x₂ (i + 2) j c 0 (λ e. omega arith)
+          ∙ getD-set-other x₁ (i + 1) j b 0 (λ e. omega arith) ∙ getD-set-other x i j a 0 (λ e. omega arith);
     }
 
 at : (x : List ℕ) (i j : ℕ) → i ≡ j → getD x j 0 ≡ getD x i 0

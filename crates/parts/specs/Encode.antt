@@ -44,10 +44,25 @@ name nth = []
 name (is-in s) = []
 name (no-such n) = n
 
--- its handle, where its name stands from o on
-abbrev pub name-load : ℕ → List ℕ → ℕ
-name-load o [] = 0
-name-load o (c ∷ s) = handle o (length (c ∷ s))
+-- what an operator loads, where its name stands from o on
+abbrev pub name-load : ℕ → Op → ℕ
+name-load o (arithmetic k) = 0
+name-load o divide = 0
+name-load o (compare k) = 0
+name-load o and = 0
+name-load o or = 0
+name-load o includes = 0
+name-load o oneof = 0
+name-load o if = 0
+name-load o negate = 0
+name-load o isknown = 0
+name-load o not = 0
+name-load o count = 0
+name-load o sum = 0
+name-load o (extreme k) = 0
+name-load o nth = 0
+name-load o (is-in s) = 0
+name-load o (no-such n) = handle o (length n)
 
 -- the texts of an expression, one behind the other
 abbrev mutual
@@ -73,7 +88,7 @@ abbrev mutual
   encode o (StringLit s) = part 4 0 1 (handle o (length s)) ∷ []
   encode o (Paren e) = []
   encode o (Listing es) = encodes o es ++ (part 5 (number-of es) (suc (sizes es)) 0 ∷ [])
-  encode o (Apply p es) = encodes o es ++ (part (code p) (number-of es) (suc (sizes es)) (name-load (o + length (spellings es)) (name p)) ∷ [])
+  encode o (Apply p es) = encodes o es ++ (part (code p) (number-of es) (suc (sizes es)) (name-load (o + length (spellings es)) p) ∷ [])
 
   pub encodes : ℕ → Exprs → List Part
   encodes o ε = []
@@ -150,11 +165,7 @@ mutual
 
 -- ---- parts that stand in a table hold their expression
 
-named-text : (b s : List ℕ) (o : ℕ) → length s ≤ text-limit → Spelt b o s → textAt b (name-load o s) ≡ s
-named-text b [] o l h = refl
-named-text b (c ∷ s) o l h = spelt-text b (c ∷ s) o l h
-
-op-load : (b : List ℕ) (p : Op) (o : ℕ) → length (name p) ≤ text-limit → Spelt b o (name p) → OpLoad b p (name-load o (name p))
+op-load : (b : List ℕ) (p : Op) (o : ℕ) → length (name p) ≤ text-limit → Spelt b o (name p) → OpLoad b p (name-load o p)
 op-load b (arithmetic k) o l h = refl
 op-load b divide o l h = refl
 op-load b (compare k) o l h = refl
@@ -171,7 +182,7 @@ op-load b sum o l h = refl
 op-load b (extreme e) o l h = refl
 op-load b nth o l h = refl
 op-load b (is-in s) o l h = refl
-op-load b (no-such n) o l h = named-text b n o l h
+op-load b (no-such n) o l h = spelt-text b n o l h
 
 module _ (t : Table) where
   mutual
@@ -190,7 +201,7 @@ module _ (t : Table) where
         let r = subst (λ (m : ℕ). Is t (a + m) (part 5 (number-of es) (suc (sizes es)) 0)) (longs o es f) (g .1 .0) in
         (laid-all es a o f s (g .0), record { kinds = r .0; counts = r .1; sizes = r .2; loads = r .3 })
     laid-held (Apply p es) a o f s h =
-        let n = name-load (o + length (spellings es)) (name p) in
+        let n = name-load (o + length (spellings es)) p in
         let u = split (λ i c. getD (t .bytes) i 0 ≡ c) (spellings es) (name p) o s in
         let g = split (Is t) (encodes o es) (part (code p) (number-of es) (suc (sizes es)) n ∷ []) a h in
         let r = subst (λ (m : ℕ). Is t (a + m) (part (code p) (number-of es) (suc (sizes es)) n)) (longs o es (f .1)) (g .1 .0) in (

@@ -7,6 +7,7 @@ use lib.IntN.{ℤ, pos, negsuc, natAbs}
 use lib.ListN.{length, length-append}
 use borrow.Author.Tests.{le-ltb}
 use Rattle.paper_expressions.specs.Limits.{real-limit, text-limit}
+use Rattle.paper_expressions.specs.Operators.{Op, arithmetic, divide, compare, and, or, includes, oneof, if, negate, isknown, not, count, sum, extreme, nth, is-in, no-such}
 use Rattle.paper_expressions.specs.Expressions.{Expr, Exprs, Atom, IntegerLit, FloatLit, StringLit, Paren, Listing, Apply, ε, _▸_}
 use Rattle.parts.specs.Codes.{code}
 use Rattle.parts.specs.CodeRange.{operator-code}
@@ -40,9 +41,24 @@ moved-narrow : (z : ℤ) → natAbs z ≤ real-limit → moved z < 2 ^ 32
 moved-narrow (pos n) h = omega arith
 moved-narrow (negsuc n) h = rw (le-ltb real-limit (suc n) h) (omega arith)
 
-name-narrow : (o : ℕ) (s : List ℕ) → o ≤ 65536 → length s ≤ text-limit → name-load o s < 2 ^ 32
-name-narrow o [] h l = omega arith
-name-narrow o (c ∷ s) h l = omega arith
+name-narrow : (o : ℕ) (p : Op) → o ≤ 65536 → length (name p) ≤ text-limit → name-load o p < 2 ^ 32
+name-narrow o (arithmetic k) h l = omega arith
+name-narrow o divide h l = omega arith
+name-narrow o (compare k) h l = omega arith
+name-narrow o and h l = omega arith
+name-narrow o or h l = omega arith
+name-narrow o includes h l = omega arith
+name-narrow o oneof h l = omega arith
+name-narrow o if h l = omega arith
+name-narrow o negate h l = omega arith
+name-narrow o isknown h l = omega arith
+name-narrow o not h l = omega arith
+name-narrow o count h l = omega arith
+name-narrow o sum h l = omega arith
+name-narrow o (extreme k) h l = omega arith
+name-narrow o nth h l = omega arith
+name-narrow o (is-in s) h l = omega arith
+name-narrow o (no-such n) h l = omega arith
 
 few-operands : (es : Exprs) → number-of es ≤ sizes es
 few-operands ε = omega arith
@@ -61,13 +77,13 @@ mutual
       (one-narrow (record { kind = omega arith; count = omega (arith, few-operands es); size = omega arith; load = omega arith }))
   narrow o (Apply p es) f s l =
       let k = simp length-append at l in
-      let n = name-load (o + length (spellings es)) (name p) in
+      let n = name-load (o + length (spellings es)) p in
       both (encodes o es) (part (code p) (number-of es) (suc (sizes es)) n ∷ []) (all-narrow o es (f .1) (omega arith) (omega arith))
       (one-narrow (record {
         kind = let c = operator-code p in omega arith;
         count = omega (arith, few-operands es);
         size = omega arith;
-        load = name-narrow (o + length (spellings es)) (name p) (omega arith) (f .0);
+        load = name-narrow (o + length (spellings es)) p (omega arith) (f .0);
       }))
 
   pub all-narrow : (o : ℕ) (es : Exprs) → AllFit es → sizes es ≤ 65536 → o + length (spellings es) ≤ 65536 → AllNarrow (encodes o es)

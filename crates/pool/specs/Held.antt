@@ -16,10 +16,10 @@ use Rattle.paper_expressions.specs.Expressions.{Expr, Exprs, Atom, IntegerLit, 
 use Rattle.parts.specs.Codes.{kind}
 use Rattle.parts.specs.Texts.{cells, handle, textAt, text-of, literal, moved}
 use Rattle.parts.specs.Part.{table, size, sizes, OpLoad, Load, Root, Holds, HoldsAll}
-use Rattle.parts.specs.Encode.{name, spelling, spellings, Spelt, spelt-cells}
+use Rattle.parts.specs.Encode.{name, name-load, spelling, spellings, Spelt, spelt-cells}
 use Rattle.parts.specs.Kept.{HasText}
 use Rattle.pool.specs.Written.{Written, spelt-split}
-use Rattle.pool.specs.Pooled.{load-of, loads-of, all-loads, Fits, Below, Pooled, Gathers}
+use Rattle.pool.specs.Pooled.{loads-of, all-loads, Fits, Below, Pooled, Gathers}
 use Rattle.pool.specs.Columns.{texted, word, load, said, marks, Moved, text-length, marks-length, said-both, marks-both, load-some, word-some}
 
 -- ---- sizes
@@ -53,7 +53,7 @@ record Part (text b : List ℕ) (e : Expr) (s : List ℕ) (y : ℕ → ℕ) (x :
   pub loads : (q : ℕ) → load q (kind e) x ≡ y q
   pub held : (q : ℕ) → Spelt b q (word text (kind e) x) → Load b e (load q (kind e) x)
 
-operator : (text b : List ℕ) (p : Op) (es : Exprs) (x : ℕ) → OpLoad text p x → Part text b (Apply p es) (name p) (λ q. load-of q p) x
+operator : (text b : List ℕ) (p : Op) (es : Exprs) (x : ℕ) → OpLoad text p x → Part text b (Apply p es) (name p) (λ q. name-load q p) x
 operator text b (arithmetic plus) es x h = record { spells = refl; loads = λ q. h; held = λ q s. h }
 operator text b (arithmetic minus) es x h = record { spells = refl; loads = λ q. h; held = λ q s. h }
 operator text b (arithmetic times) es x h = record { spells = refl; loads = λ q. h; held = λ q s. h }
@@ -100,7 +100,7 @@ own-load (FloatLit n) q = moved n
 own-load (StringLit s) q = handle q (length s)
 own-load (Paren e) q = 0
 own-load (Listing es) q = 0
-own-load (Apply p es) q = load-of q p
+own-load (Apply p es) q = name-load q p
 
 last : (text b : List ℕ) (e : Expr) (x : ℕ) → Load text e x → Part text b e (own e) (own-load e) x
 last text b (Atom a) x h = record { spells = h; loads = λ q. ap (handle q) (sym (text-length text x) ∙ ap length h); held = λ q s. spelt-text text b x q s ∙ h }

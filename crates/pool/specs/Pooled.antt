@@ -3,34 +3,14 @@ use mathlib.Core.Path.{_≡_}
 use mathlib.Core.List.{List, [], _∷_, _++_}
 use Prim.Native.Nat.{ℕ, _+_, _/_, _%_, _≤_, _<_}
 use lib.ListN.{getD, length}
-use Rattle.paper_expressions.specs.Operators.{Op, arithmetic, divide, compare, and, or, includes, oneof, if, negate, isknown, not, count, sum, extreme, nth, is-in, no-such}
 use Rattle.paper_expressions.specs.Expressions.{Expr, Exprs, Atom, IntegerLit, FloatLit, StringLit, Paren, Listing, Apply, ε, _▸_}
 use Rattle.parts.specs.Texts.{handle, moved}
 use Rattle.parts.specs.Part.{table, size, Holds}
-use Rattle.parts.specs.Encode.{spelling, spellings}
+use Rattle.parts.specs.Encode.{name-load, spelling, spellings}
 use Rattle.parts.specs.Kept.{HasText}
 use Rattle.pool.specs.Written.{Written}
 
 -- ---- what the parts of an expression load, where its texts stand from o on
-
-abbrev pub load-of : ℕ → Op → ℕ
-load-of o (arithmetic k) = 0
-load-of o divide = 0
-load-of o (compare k) = 0
-load-of o and = 0
-load-of o or = 0
-load-of o includes = 0
-load-of o oneof = 0
-load-of o if = 0
-load-of o negate = 0
-load-of o isknown = 0
-load-of o not = 0
-load-of o count = 0
-load-of o sum = 0
-load-of o (extreme k) = 0
-load-of o nth = 0
-load-of o (is-in s) = 0
-load-of o (no-such n) = handle o (length n)
 
 abbrev mutual
   pub loads-of : ℕ → Expr → List ℕ
@@ -40,7 +20,7 @@ abbrev mutual
   loads-of o (StringLit s) = handle o (length s) ∷ []
   loads-of o (Paren e) = loads-of o e
   loads-of o (Listing es) = all-loads o es ++ (0 ∷ [])
-  loads-of o (Apply p es) = all-loads o es ++ (load-of (o + length (spellings es)) p ∷ [])
+  loads-of o (Apply p es) = all-loads o es ++ (name-load (o + length (spellings es)) p ∷ [])
 
   pub all-loads : ℕ → Exprs → List ℕ
   all-loads o ε = []

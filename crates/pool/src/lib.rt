@@ -11,7 +11,7 @@ ghost use Rattle.pool.specs.Pooled.{Gathers, nowhere as nowhereOf};
 ghost use Rattle.pool.specs.Columns.{Rooms, Moves, texted};
 
 // No handle leads to this place or behind it.
-const NOWHERE: usize = 67_108_864;
+pub const NOWHERE: usize = 67_108_864;
 
 // Whether a part of kind `k` loads a text.
 fn has_text(k: u8) -> bool
@@ -26,7 +26,7 @@ fn has_text(k: u8) -> bool
 }
 
 // Whether `n` bytes from `o` on fit `long` bytes and a handle.
-fn room(long: usize, o: usize, n: usize) -> bool
+pub fn room(long: usize, o: usize, n: usize) -> bool
     ensures { λ r. ⌜ Rooms long (o + n) r ⌝ }
 {
     if NOWHERE <= o {
@@ -42,7 +42,7 @@ fn room(long: usize, o: usize, n: usize) -> bool
 }
 
 // Copies `n` bytes of the text to the bytes from `o` on.
-fn copy(text: &[u8], place: usize, n: usize, bytes: &mut [u8], o: usize)
+pub fn copy(text: &[u8], place: usize, n: usize, bytes: &mut [u8], o: usize)
     requires { ⌜ (o + n ≤ length (now bytes)) × (place + n ≤ nowhereOf + 64) ⌝ }
     ensures { λ r. ⌜ Written (now (bytes .entry)) (now (bytes .exit)) o (cells (now (text .entry)) place n) ⌝ }
 {

@@ -92,24 +92,25 @@ OverLimits text kinds places lengths t short r =
 
 -- ---- the whole
 
--- the rows x of an accepted text hold its structure, and it passes all stages up to the limits
-pub record Judged (text kinds places lengths x : List ℕ) (short : Bool) (n : ℕ) : Type 0 where
+-- the rows y of an accepted text hold its structure, behind them the cells of x are kept, and it passes all stages up to the limits
+pub record Judged (text kinds places lengths x y : List ℕ) (short : Bool) (n : ℕ) : Type 0 where
   pub tokens : List Lexical.Token
   pub its : Lexical.Tokens text 0 tokens
   pub stand : Stand (source text kinds places lengths) 0 tokens
   pub guideline : List TopLevel
   pub structure : Structure tokens guideline
-  pub outline : Outline (source text kinds places lengths) x n (flatten guideline)
+  pub outline : Outline (source text kinds places lengths) y n (flatten guideline)
+  pub rest : (j : ℕ) → n * 8 ≤ j → getD y j 0 ≡ getD x j 0
   pub passed : Passed (short ≡ true) text 5
 
-abbrev pub Outcome : List ℕ → List ℕ → List ℕ → List ℕ → List ℕ → Bool → Verdict → Type 0
-Outcome text kinds places lengths x short (Fine n) = Judged text kinds places lengths x short n
-Outcome text kinds places lengths x short (Refused n p) = Refusals.Refused (short ≡ true) text n p
+abbrev pub Outcome : List ℕ → List ℕ → List ℕ → List ℕ → List ℕ → List ℕ → Bool → Verdict → Type 0
+Outcome text kinds places lengths x y short (Fine n) = Judged text kinds places lengths x y short n
+Outcome text kinds places lengths x y short (Refused n p) = Refusals.Refused (short ≡ true) text n p
 
 -- the same, where the tokens are a guideline of which nothing is left out
 pub record Limited (text kinds places lengths x y : List ℕ) (short : Bool) (r : Verdict) : Type 0 where
   pub outcome : (l : Lexed text kinds places lengths) (g : List TopLevel) → Structure (l .tokens) g → row-cells ≤ length x → Passed (short ≡ true) text 4
-      → Outcome text kinds places lengths y short r
+      → Outcome text kinds places lengths x y short r
 
 pub record Judges (text kinds places lengths x y : List ℕ) (short : Bool) (r : Verdict) : Type 0 where
-  pub outcome : Lexed text kinds places lengths → row-cells ≤ length x → Outcome text kinds places lengths y short r
+  pub outcome : Lexed text kinds places lengths → row-cells ≤ length x → Outcome text kinds places lengths x y short r

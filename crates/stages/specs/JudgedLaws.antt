@@ -190,11 +190,11 @@ module _ (text kinds places lengths : List ℕ) (short : Bool) where
 
   module _ {x y : List ℕ} {o : Outlined} {t : Totals} (oh : Outlines (source text kinds places lengths) x y o) (sh : Surveys kinds y (o .n) t) where
     surveyed : (l : Lexed text kinds places lengths) (g : List TopLevel) → Structure (l .tokens) g → row-cells ≤ length x
-        → Outline (source text kinds places lengths) y (o .n) (flatten g) × Surveyed g t
+        → Outline (source text kinds places lengths) y (o .n) (flatten g) × Surveyed g t × (o .ok ≡ true)
     surveyed l g s room =
         let v = given l x g s room in
-        let h = oh .done (l .tokens) g v .1 in
-        (h, sh (source text kinds places lengths) refl (length x) (l .tokens) g v h)
+        let d = oh .done (l .tokens) g v in
+        (d .1, sh (source text kinds places lengths) refl (length x) (l .tokens) g v (d .1), d .0)
 
     pub past-limit : (p : ℕ) → OverLimits text kinds places lengths t short (At p) → Limited text kinds places lengths x y short (Refused 6 p)
     past-limit p h = record {
@@ -214,6 +214,7 @@ module _ (text kinds places lengths : List ℕ) (short : Bool) where
             guideline = g;
             structure = s;
             outline = v .0;
+            rest = oh .rest (v .2);
             passed = limit-passed (short ≡ true) text (l .its) s before (h (l .tokens) g (l .its) (l .stand) s (v .1));
           };
     }

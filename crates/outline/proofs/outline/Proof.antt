@@ -1,10 +1,10 @@
 -- `outline`: the rows passed are in the table, and the tokens from `p` on give the others. What is left of the tokens falls.
-use Prim.Native.Nat.{_-_}
+use Prim.Native.Nat.{ℕ, _-_, _*_, _≤_}
 use mathlib.Core.Path.{_≡_, refl, sym, _∙_}
 use mathlib.Core.List.{List}
 use native.Mathlib.Omega.{arith}
 use borrow.Author.Tests.{not-true, not-false}
-use lib.ListN.{length}
+use lib.ListN.{length, getD}
 use borrow.Author.Needs.{needs}
 use Rattle.paper_reading.specs.LlLaws.{contra}
 use Rattle.paper_reading.specs.Lexical.{Token}
@@ -19,12 +19,13 @@ use Rattle.outline.proofs.outline.Tie as tie
 abbrev Inv-loop : tie.InvT-loop
 Inv-loop text kinds places lengths rows₀ n₀ p₀ mode₀ rows n p mode =
     (length rows ≡ length rows₀) × ((ts : List Token) (g : List TopLevel) → Given (source text kinds places lengths) (length rows₀) ts g → Upto (source text kinds places lengths) rows n p mode (flatten g))
+    × ((j : ℕ) → n * 8 ≤ j → getD rows j 0 ≡ getD rows₀ j 0)
 
 abbrev μ-loop : tie.MeasureT-loop
 μ-loop text kinds places lengths rows₀ n₀ p₀ mode₀ rows n p mode = length kinds - p
 
 loop-holds : tie.Need-loop-holds Inv-loop μ-loop
-loop-holds c = (refl, λ ts g h. upto-begin h)
+loop-holds c = (refl, (λ ts g h. upto-begin h), λ j h. refl)
 
 step-requires : tie.Need-step-requires Inv-loop μ-loop
 step-requires c κs = search needs
@@ -36,6 +37,7 @@ returns : tie.Need-returns Inv-loop μ-loop
 returns c =
     record {
       long = (c .before .before .before .before .loop) .inv .0;
+      rest = λ e. contra e;
       done = λ ts g h. contra (sym (not-true _ ((c .if1) .taken)) ∙ step-ok ((c .before .before .before .before .loop) .inv .1 ts g h) ((c .before .before .before .loop-test) .taken) ((c .before .before .step) .ensures));
     }
 
@@ -50,6 +52,7 @@ returns-2 c =
     let l = (c .before .before .before .before .before .before .before .before .before .before .loop) .inv in
     record {
       long = (c .before .before .before .before .put) .ensures .long ∙ l .0;
+      rest = λ e. contra e;
       done = λ ts g h. contra (sym (not-true _ ((c .if2) .taken)) ∙ next-turn (l .1 ts g h) ((c .before .before .before .before .before .before .before .before .before .loop-test) .taken) ((c .before .before .before .before .before .before .before .before .step) .ensures) (let e = enough h in let k = l .0 in omega arith) ((c .before .before .before .before .put) .ensures) .0);
     }
 
@@ -58,14 +61,17 @@ loop-less c = let o = (c .before .before .before .before .before .before .before
 
 loop-again : tie.Need-loop-again Inv-loop μ-loop
 loop-again c =
-    let l = (c .before .before .before .before .before .before .before .before .before .before .loop) .inv in
-    ((c .before .before .before .before .put) .ensures .long ∙ l .0, λ ts g h. next-turn (l .1 ts g h) ((c .before .before .before .before .before .before .before .before .before .loop-test) .taken) ((c .before .before .before .before .before .before .before .before .step) .ensures) (let e = enough h in let k = l .0 in omega arith) ((c .before .before .before .before .put) .ensures) .1)
+    let l = (c .before .before .before .before .before .before .before .before .before .before .loop) .inv in (
+      (c .before .before .before .before .put) .ensures .long ∙ l .0,
+      λ ts g h. next-turn (l .1 ts g h) ((c .before .before .before .before .before .before .before .before .before .loop-test) .taken) ((c .before .before .before .before .before .before .before .before .step) .ensures) (let e = enough h in let k = l .0 in omega arith) ((c .before .before .before .before .put) .ensures) .1,
+      λ j h. let u = (c .before .before .before .before .put) .ensures .up in (c .before .before .before .before .put) .ensures .beyond j h ∙ l .2 j (omega arith),
+    )
 
 same-length-3 : tie.Need-same-length-3 Inv-loop μ-loop
 same-length-3 c = (c .before .loop) .inv .0
 
 returns-3 : tie.Need-returns-3 Inv-loop μ-loop
-returns-3 c = record { long = (c .before .loop) .inv .0; done = λ ts g h. (refl, upto-end ((c .before .loop) .inv .1 ts g h) ((c .loop-test) .left)) }
+returns-3 c = record { long = (c .before .loop) .inv .0; rest = λ e. (c .before .loop) .inv .2; done = λ ts g h. (refl, upto-end ((c .before .loop) .inv .1 ts g h) ((c .loop-test) .left)) }
 
 pub outline-spec : {M : Type 1} → statement M
 outline-spec =

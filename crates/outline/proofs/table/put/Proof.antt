@@ -9,10 +9,10 @@ use Rattle.outline.proofs.table.put.Statement.{statement}
 use Rattle.outline.proofs.table.put.Tie as tie
 
 returns : tie.Need-returns
-returns c = record { long = refl; none = λ e. (refl, refl, refl); one = λ e l. contra (sym (not-true _ ((c .if1) .taken)) ∙ e) }
+returns c = record { long = refl; up = omega arith; beyond = λ j h. refl; none = λ e. (refl, refl, refl); one = λ e l. contra (sym (not-true _ ((c .if1) .taken)) ∙ e) }
 
 returns-2 : tie.Need-returns-2
-returns-2 c = record { long = refl; none = λ e. contra (sym e ∙ not-false _ ((c .before .if1) .left)); one = λ e l. absurd (let h = (c .if2) .taken in omega arith) }
+returns-2 c = record { long = refl; up = omega arith; beyond = λ j h. refl; none = λ e. contra (sym e ∙ not-false _ ((c .before .if1) .left)); one = λ e l. absurd (let h = (c .if2) .taken in omega arith) }
 
 mul-i : tie.Need-mul-i
 mul-i c = search needs
@@ -60,6 +60,8 @@ returns-3 c =
     let g = (c .before .before .four2) .ensures in
     record {
       long = g .long ∙ f .long;
+      up = omega arith;
+      beyond = λ j h. g .beyond j (omega arith) ∙ f .beyond j (omega arith);
       none = λ e. contra (sym e ∙ not-false _ ((c .before .before .before .before .before .before .before .before .before .before .before .before .before .before .before .before .if1) .left));
       one = λ e l. (refl, refl, put-eight t ((c .before .before .before .before .before .before .before .before .before .before .before .before .low) .ensures) ((c .before .before .before .before .before .before .before .before .before .before .before .low2) .ensures) ((c .before .before .before .before .before .before .before .before .before .before .low3) .ensures) ((c .before .before .before .before .before .low4) .ensures) ((c .before .before .before .before .low5) .ensures) f g);
     }

@@ -1,0 +1,120 @@
+-- `fill`: each turn finishes one row more.
+use mathlib.Core.Path.{_≡_, refl, sym, _∙_}
+use mathlib.Core.List.{List}
+use Prim.Native.Nat.{_-_, _≤_}
+use native.Mathlib.Omega.{arith}
+use lib.ListN.{length}
+use borrow.Author.Tests.{not-true}
+use borrow.Author.Needs.{needs}
+use Rattle.paper_reading.specs.FormsLaws.{contra}
+use Rattle.parts.specs.Part.{table}
+use Rattle.leaves.specs.Source.{source}
+use Rattle.outline.specs.Rows.{Row}
+use Rattle.expressions.specs.Filled.{Ready}
+use Rattle.expressions.specs.Laws.{Now, now-first, now-ok, now-next, now-done}
+use Rattle.expressions.proofs.fill.Statement.{statement}
+use Rattle.expressions.proofs.fill.Tie as tie
+
+abbrev Inv-loop : tie.InvT-loop
+Inv-loop text kinds places lengths n rows₀ codes₀ counts₀ sizes₀ loads₀ u₀ i₀ rows codes counts sizes loads u i =
+    (i ≤ n) × (length rows ≡ length rows₀) × (length codes ≡ length codes₀) × (length counts ≡ length counts₀) × (length sizes ≡ length sizes₀) × (length loads ≡ length loads₀)
+    × ((l : List Row) → Ready (source text kinds places lengths) rows₀ (table codes₀ counts₀ sizes₀ loads₀ text) n l
+    → Now (source text kinds places lengths) rows₀ rows (table codes₀ counts₀ sizes₀ loads₀ text) (table codes counts sizes loads text) n i u l)
+
+abbrev μ-loop : tie.MeasureT-loop
+μ-loop text kinds places lengths n rows₀ codes₀ counts₀ sizes₀ loads₀ u₀ i₀ rows codes counts sizes loads u i = n - i
+
+loop-holds : tie.Need-loop-holds Inv-loop μ-loop
+loop-holds c = (omega arith, refl, refl, refl, refl, refl, λ l g. now-first g)
+
+read-row-requires : tie.Need-read-row-requires Inv-loop μ-loop
+read-row-requires c κs = search needs
+
+failed-requires : tie.Need-failed-requires Inv-loop μ-loop
+failed-requires c κs = search needs
+
+same-length : tie.Need-same-length Inv-loop μ-loop
+same-length c = search needs
+
+same-length-2 : tie.Need-same-length-2 Inv-loop μ-loop
+same-length-2 c = search needs
+
+same-length-3 : tie.Need-same-length-3 Inv-loop μ-loop
+same-length-3 c = search needs
+
+same-length-4 : tie.Need-same-length-4 Inv-loop μ-loop
+same-length-4 c = search needs
+
+same-length-5 : tie.Need-same-length-5 Inv-loop μ-loop
+same-length-5 c = search needs
+
+returns : tie.Need-returns Inv-loop μ-loop
+returns c =
+    let v = c .before .before .before .before .before .before .before .before .before .before .before .before .before .before .before .before .before .before .before .before .loop .inv in
+    let v1 = v .1 in
+    let v2 = v .2 in
+    let v3 = v .3 in
+    let v4 = v .4 in
+    let v5 = v .5 in
+    let h = c .before .before .before .before .before .before .before .before .before .before .before .before .before .before .before .before .before .before .before .loop-test .taken in
+    λ l g. contra (sym (not-true _ (c .before .if1 .taken)) ∙ now-ok g (v .6 l g) (c .before .before .before .before .before .before .before .before .before .before .before .before .before .read-row .ensures) h v1 (record { kinds = let k = g .wide .kinds in omega arith; counts = let k = g .wide .counts in omega arith; sizes = let k = g .wide .sizes in omega arith; loads = let k = g .wide .loads in omega arith }))
+
+add-i : tie.Need-add-i Inv-loop μ-loop
+add-i c = search needs
+
+loop-less : tie.Need-loop-less Inv-loop μ-loop
+loop-less c = search needs
+
+loop-again : tie.Need-loop-again Inv-loop μ-loop
+loop-again c =
+    let v = c .before .before .before .before .before .before .before .before .before .before .before .before .before .before .before .before .before .before .before .loop .inv in
+    let v1 = v .1 in
+    let v2 = v .2 in
+    let v3 = v .3 in
+    let v4 = v .4 in
+    let v5 = v .5 in
+    let h = c .before .before .before .before .before .before .before .before .before .before .before .before .before .before .before .before .before .before .loop-test .taken in
+    (omega arith, omega arith, omega arith, omega arith, omega arith, omega arith, λ l g. now-next g (v .6 l g) (c .before .before .before .before .before .before .before .before .before .before .before .before .read-row .ensures) h v1 (record { kinds = let k = g .wide .kinds in omega arith; counts = let k = g .wide .counts in omega arith; sizes = let k = g .wide .sizes in omega arith; loads = let k = g .wide .loads in omega arith }) refl)
+
+same-length-6 : tie.Need-same-length-6 Inv-loop μ-loop
+same-length-6 c = search needs
+
+same-length-7 : tie.Need-same-length-7 Inv-loop μ-loop
+same-length-7 c = search needs
+
+same-length-8 : tie.Need-same-length-8 Inv-loop μ-loop
+same-length-8 c = search needs
+
+same-length-9 : tie.Need-same-length-9 Inv-loop μ-loop
+same-length-9 c = search needs
+
+same-length-10 : tie.Need-same-length-10 Inv-loop μ-loop
+same-length-10 c = search needs
+
+returns-2 : tie.Need-returns-2 Inv-loop μ-loop
+returns-2 c = let v = c .before .loop .inv in λ l g. now-done g (v .6 l g) (v .0) (c .loop-test .left)
+
+pub fill-spec : {M : Type 1} → statement M
+fill-spec =
+    tie.close
+    (tie.spec
+    Inv-loop
+    μ-loop
+    loop-holds
+    read-row-requires
+    failed-requires
+    same-length
+    same-length-2
+    same-length-3
+    same-length-4
+    same-length-5
+    returns
+    add-i
+    loop-less
+    loop-again
+    same-length-6
+    same-length-7
+    same-length-8
+    same-length-9
+    same-length-10
+    returns-2)

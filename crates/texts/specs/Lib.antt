@@ -1,0 +1,10 @@
+pub mod Encoded
+pub mod OneEncoding
+pub mod Worked
+pub mod Kinds
+pub mod Gathered
+pub mod Laws
+pub mod Laid
+pub mod Whole
+pub mod Room
+pub mod Guideline
