@@ -2,7 +2,6 @@ pub mod Reply
 pub mod Steps
 pub mod Stages
 pub mod Columns
-pub mod Clean
 pub mod Modest
 pub mod Texts
 pub mod Given

@@ -31,8 +31,8 @@ use Rattle.line.specs.declared.tests.Verdict.{Verdict}
 use Rattle.line.specs.declared.tests.Verdict.the-variants.{Fine, Refused}
 use Rattle.line.specs.Steps.{Lexed, Parsed, Fitting, Parses, Fits}
 use Rattle.line.specs.Stages.{few-tokens, few-open, no-sentence, sentence, uses, nothing-left-out, over-limit, deep, long-lists, too-many-parts, within-limits}
-use Rattle.line.specs.Columns.{as-many}
-use Rattle.line.specs.Clean.{clean}
+use Rattle.columns.specs.Columns.{as-many}
+use Rattle.columns.specs.Clean.{clean}
 use Rattle.line.specs.Modest.{modest}
 
 pub nothing-behind : Tree.Ends anywhere []

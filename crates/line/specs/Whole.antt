@@ -1,11 +1,10 @@
 -- The first step, and the whole: what the tokens' reply says of a line, and when the cells hold the answer. Law: at most one reply meets the contract.
-use Prim.Native.Nat.{ℕ, _-_, _≤_, _<_}
+use Prim.Native.Nat.{ℕ, _≤_, _<_}
 use native.Mathlib.Omega.{arith}
 use mathlib.Core.Path.{_≡_, refl, sym, ap, subst, _∙_}
 use mathlib.Core.Logic.{⊎-elim}
 use mathlib.Core.List.{List}
-use lib.ListN.{length, take, replicate, length-append, length-replicate}
-use lib.Seq.{length-take-le}
+use lib.ListN.{length, take, length-replicate}
 use Rattle.paper_reading.specs.Limits.{token-limit}
 use Rattle.paper_reading.specs.RefusalLaws.{le-or-gt}
 use Rattle.paper_reading.specs.Line.{LineAnswer, refused, LineAnswers, answer-written}
@@ -17,32 +16,17 @@ use Rattle.written.specs.Longest.{answer-limit}
 use Rattle.line.specs.Reply.{Answered, Reply}
 use Rattle.line.specs.Steps.{Blank, Lexed}
 use Rattle.line.specs.Stages.{early-refusal}
-use Rattle.line.specs.Columns.{as-many, lexed}
+use Rattle.columns.specs.Replies.{turned}
+use Rattle.line.specs.Columns.{lexed}
 
 -- ---- the tokens
 
 module _ (line kinds places lengths : List ℕ) {v : Read} (reads : Reads line token-limit token-limit token-limit kinds places lengths v) where
-  pub not-short : v ≡ Short → ⊥
-  not-short e =
-      let h = subst (Reads line token-limit token-limit token-limit kinds places lengths) e reads in
-      ⊎-elim (λ (l : token-limit < token-limit). omega arith) (λ m. ⊎-elim (λ (l : token-limit < token-limit). omega arith) (λ (l : token-limit < token-limit). omega arith) m) (h .short)
-
   pub early : {n p : ℕ} → v ≡ Refused n p → LineAnswers line (refused n)
-  early e = let h = subst (Reads line token-limit token-limit token-limit kinds places lengths) e reads .1 in early-refusal (h .refused) (h .stage)
+  early e = let h = turned line kinds places lengths reads e in early-refusal (h .refused) (h .stage)
 
   pub read : {n : ℕ} → v ≡ Tokens n → Lexed line (take n kinds) places lengths
   read e = lexed (subst (Reads line token-limit token-limit token-limit kinds places lengths) e reads .1)
-
-  pub few : {n : ℕ} → v ≡ Tokens n → n ≤ length kinds
-  few e =
-      let h = subst (Reads line token-limit token-limit token-limit kinds places lengths) e reads .1 in
-      let c = h .count in
-      let m = as-many (h .are) in
-      let l = ap length (h .kinds-are) ∙ length-append (h .terminals) (replicate (token-limit - length (h .terminals)) 0) in
-      omega arith
-
-  pub cut : {n : ℕ} → v ≡ Tokens n → n ≡ length (take n kinds)
-  cut {n} e = sym (length-take-le n kinds (few e))
 
 -- ---- the cells
 

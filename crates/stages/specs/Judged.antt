@@ -9,11 +9,10 @@ use Rattle.paper_reading.specs.Limits.{token-limit, task-limit, data-item-limit
 use Rattle.paper_reading.specs.Nonterminals.{⟨process⟩}
 use Rattle.paper_reading.specs.Guideline.{Sentence-of, First-bad}
 use Rattle.paper_reading.specs.Lexical as Lexical
-use Rattle.paper_reading.specs.Terminals.{Terminals}
 use Rattle.paper_reading.specs.Structure.{TopLevel, Structure}
 use Rattle.paper_reading.specs.Refusals as Refusals
-use Refusals.{Stage, turn, Breach}
 use Rattle.leaves.specs.Source.{source, Stand}
+use Rattle.columns.specs.Columns.{Lexed}
 use Rattle.outline.specs.Rows.{flatten}
 use Rattle.outline.specs.Made.{Outline, row-cells}
 use Rattle.survey.specs.declared.Totals.{Totals}
@@ -23,16 +22,8 @@ use Rattle.token_tests.specs.declared.Found.the-variants.{At, Nowhere}
 use Rattle.stages.specs.declared.Verdict.{Verdict}
 use Rattle.stages.specs.declared.Verdict.the-variants.{Fine, Refused}
 use Rattle.stages.specs.Least.{Least}
-use Rattle.stages.specs.Stages.{Passed}
+use Rattle.stages.specs.Stages.{Passed, Turned}
 use Rattle.stages.specs.Limits.{Over}
-
--- the columns stand for the tokens of the text, and it passes 1, 2 and 6 for tokens and brackets
-pub record Lexed (text kinds places lengths : List ℕ) : Type 0 where
-  pub tokens : List Lexical.Token
-  pub its : Lexical.Tokens text 0 tokens
-  pub are : Terminals tokens kinds
-  pub stand : Stand (source text kinds places lengths) 0 tokens
-  pub passed : (s : Stage) (q : ℕ) → turn s ≤ 2 → ¬ Breach ⊥ text s q
 
 -- a place, or none
 abbrev pub spot : Found → Option ℕ
@@ -105,7 +96,7 @@ pub record Judged (text kinds places lengths x y : List ℕ) (short : Bool) (n :
 
 abbrev pub Outcome : List ℕ → List ℕ → List ℕ → List ℕ → List ℕ → List ℕ → Bool → Verdict → Type 0
 Outcome text kinds places lengths x y short (Fine n) = Judged text kinds places lengths x y short n
-Outcome text kinds places lengths x y short (Refused n p) = Refusals.Refused (short ≡ true) text n p
+Outcome text kinds places lengths x y short (Refused n p) = Turned (short ≡ true) text n p
 
 -- the same, where the tokens are a guideline of which nothing is left out
 pub record Limited (text kinds places lengths x y : List ℕ) (short : Bool) (r : Verdict) : Type 0 where

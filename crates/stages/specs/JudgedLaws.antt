@@ -38,7 +38,8 @@ use Rattle.stages.specs.declared.Verdict.the-variants.{Fine, Refused}
 use Rattle.stages.specs.Least.{Least, least, Either, least-either}
 use Rattle.stages.specs.Stages.{Passed, PlaceOf, of-token, of-end, early-passed, grammar-refused, grammar-passed, left-out-refused, left-out-passed}
 use Rattle.stages.specs.Limits.{CountOver, tasks-over, data-items-over, parts-over, assignments-over, sources-over, short-over, WholeOver, Over, limit-refused, limit-passed}
-use Rattle.stages.specs.Judged.{Lexed, spot, Places, BadAt, Sentences, Large, SomeOver, tasks, items, parts, assignments, sources, tables, NoneOver, AnyOver, Whole, OverLimits, Judged, Outcome, Limited, Judges}
+use Rattle.columns.specs.Columns.{Lexed}
+use Rattle.stages.specs.Judged.{spot, Places, BadAt, Sentences, Large, SomeOver, tasks, items, parts, assignments, sources, tables, NoneOver, AnyOver, Whole, OverLimits, Judged, Outcome, Limited, Judges}
 
 contra : {A : Type 0} → true ≡ false → A
 contra e = absurd (let z : _≡_ {A = ℕ} 0 1 = cc in omega arith)

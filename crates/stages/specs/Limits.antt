@@ -19,7 +19,7 @@ use Refusals.{Stage, limit-stage, turn, Breach, Refused, Read, TokenBreach, tota
 use Refusals.{token-breach, too-deep, long-list, many-tasks, many-data-items, many-parts, many-assignments, many-sources, short-table}
 use Rattle.token_tests.specs.Reply.{OverLimit}
 use Rattle.survey.specs.TallyLaws.{Too-large, breaks-large}
-use Rattle.stages.specs.Stages.{Passed, passed-next}
+use Rattle.stages.specs.Stages.{Passed, passed-next, Turned}
 use Rattle.stages.specs.Least.{Least, Either}
 
 -- a whole count is passed, or a lent table is too short
@@ -78,13 +78,16 @@ module _ (Short : Type 0) (text : List ℕ) {ts : List Token} {g : List TopLevel
 
   -- ---- 6, for all else
 
-  pub limit-refused : {p : ℕ} → Passed Short text 4 → Least Over (some p) → Refused Short text 6 p
+  pub limit-refused : {p : ℕ} → Passed Short text 4 → Least Over (some p) → Turned Short text 6 p
   limit-refused {p} h l = record {
-    stage = limit-stage;
-    broken = breach-of p (l .0);
-    numbered = refl;
-    smallest = λ {q} b. l .1 q (over-of b);
-    first = λ {s} {q} m b. h s q (omega arith) b;
+    refused = record {
+      stage = limit-stage;
+      broken = breach-of p (l .0);
+      numbered = refl;
+      smallest = λ {q} b. l .1 q (over-of b);
+      first = λ {s} {q} m b. h s q (omega arith) b;
+    };
+    stage = omega arith;
   }
 
   pub limit-passed : Passed Short text 4 → Least Over none → Passed Short text 5

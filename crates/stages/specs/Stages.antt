@@ -98,6 +98,11 @@ same-bad {ks} {js} {i} its are a b f =
     let g = TerminalLaws.one-list (subst (λ (v : List Token). Terminals v js) e b) are in
     subst (λ (v : List ℕ). First-bad ⟨process⟩ v i) g f
 
+-- the published refusal, by a stage up to the limits
+pub record Turned (Short : Type 0) (text : List ℕ) (n p : ℕ) : Type 0 where
+  pub refused : Refused Short text n p
+  pub stage : turn (refused .stage) ≤ turn limit-stage
+
 module _ (Short : Type 0) (text : List ℕ) where
   -- ---- the stages up to the k-th are passed
 
@@ -112,13 +117,16 @@ module _ (Short : Type 0) (text : List ℕ) where
 
   -- ---- 1, 2 and 6 for tokens and brackets
 
-  pub early-refused : {n p : ℕ} (r : Refused ⊥ text n p) → turn (r .stage) ≤ 2 → Refused Short text n p
+  pub early-refused : {n p : ℕ} (r : Refused ⊥ text n p) → turn (r .stage) ≤ 2 → Turned Short text n p
   early-refused r l = record {
-    stage = r .stage;
-    broken = up (r .broken);
-    numbered = r .numbered;
-    smallest = λ b. r .smallest (down (omega arith) b);
-    first = λ m b. r .first m (down (omega arith) b);
+    refused = record {
+      stage = r .stage;
+      broken = up (r .broken);
+      numbered = r .numbered;
+      smallest = λ b. r .smallest (down (omega arith) b);
+      first = λ m b. r .first m (down (omega arith) b);
+    };
+    stage = omega arith;
   }
 
   pub early-passed : ((s : Stage) (q : ℕ) → turn s ≤ 2 → ¬ Breach ⊥ text s q) → Passed 2
@@ -137,17 +145,20 @@ module _ (Short : Type 0) (text : List ℕ) where
     bad-here f (of-token h) = bad-token its are f h
     bad-here f (of-end e) = bad-end its are (subst (λ (n : ℕ). First-bad ⟨process⟩ ks n) e f)
 
-    pub grammar-refused : {i p : ℕ} → Passed 2 → First-bad ⟨process⟩ ks i → PlaceOf text ts i p → Refused Short text 3 p
+    pub grammar-refused : {i p : ℕ} → Passed 2 → First-bad ⟨process⟩ ks i → PlaceOf text ts i p → Turned Short text 3 p
     grammar-refused {i} {p} h f w = record {
-      stage = grammar-stage;
-      broken = bad-here f w;
-      numbered = refl;
-      smallest = λ {q} b.
-          let o = bad-at b in
-          let e = first-bad-one f (o .1) in
-          let z = one-place w (subst (λ (n : ℕ). PlaceOf text ts n q) (sym e) (o .2)) in
-          omega arith;
-      first = λ {s} {q} l b. h s q (omega arith) b;
+      refused = record {
+        stage = grammar-stage;
+        broken = bad-here f w;
+        numbered = refl;
+        smallest = λ {q} b.
+            let o = bad-at b in
+            let e = first-bad-one f (o .1) in
+            let z = one-place w (subst (λ (n : ℕ). PlaceOf text ts n q) (sym e) (o .2)) in
+            omega arith;
+        first = λ {s} {q} l b. h s q (omega arith) b;
+      };
+      stage = omega arith;
     }
 
     pub grammar-passed : Passed 2 → Sentence-of ⟨process⟩ ks → Passed 3
@@ -158,13 +169,16 @@ module _ (Short : Type 0) (text : List ℕ) where
     left-out-here : {q : ℕ} → Breach Short text left-out-stage q → LeftOut ts q
     left-out-here {q} (uses-left-out a b) = subst (λ (v : List Token). LeftOut v q) (LexicalLaws.one-list a its) b
 
-    pub left-out-refused : {p : ℕ} → Passed 3 → LeftOut ts p → ((q : ℕ) → LeftOut ts q → p ≤ q) → Refused Short text 10 p
+    pub left-out-refused : {p : ℕ} → Passed 3 → LeftOut ts p → ((q : ℕ) → LeftOut ts q → p ≤ q) → Turned Short text 10 p
     left-out-refused {p} h o m = record {
-      stage = left-out-stage;
-      broken = uses-left-out its o;
-      numbered = refl;
-      smallest = λ {q} b. m q (left-out-here b);
-      first = λ {s} {q} l b. h s q (omega arith) b;
+      refused = record {
+        stage = left-out-stage;
+        broken = uses-left-out its o;
+        numbered = refl;
+        smallest = λ {q} b. m q (left-out-here b);
+        first = λ {s} {q} l b. h s q (omega arith) b;
+      };
+      stage = omega arith;
     }
 
     pub left-out-passed : Passed 3 → ((q : ℕ) → ¬ LeftOut ts q) → Passed 4

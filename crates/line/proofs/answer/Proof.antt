@@ -1,7 +1,8 @@
 -- `line::answer` meets its contract: too few cells, a refusal by the tokens, or what the tests and the value give.
 use lib.ListN.{length}
 use Rattle.line.specs.Writing.{refuses}
-use Rattle.line.specs.Whole.{not-short, early, read, few, cut, are-blank, no-answer, an-answer}
+use Rattle.columns.specs.Replies.{not-short, few, cut}
+use Rattle.line.specs.Whole.{early, read, are-blank, no-answer, an-answer}
 use borrow.Author.Needs.{needs}
 use Rattle.line.proofs.answer.Statement.{statement}
 use Rattle.line.proofs.answer.Tie as tie

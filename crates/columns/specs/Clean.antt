@@ -1,4 +1,4 @@
--- Law: where no token of a line passes its limit, no cells of its columns stand for one that does. The cells say all of a token: its rule by its terminal.
+-- Law: where no token of a text passes its limit, no cells of its columns stand for one that does. The cells say all of a token: its rule by its terminal.
 use Prim.Native.Nat.{ℕ, suc, _≤_}
 use native.Mathlib.Omega.{arith}
 use mathlib.Core.Path.{_≡_, sym, ap, subst, _∙_}

@@ -1,0 +1,57 @@
+-- `clear` meets its contract: the cells passed are zero.
+use Prim.Native.Nat.{ℕ, _+_, _-_, _≤_, _<_}
+use native.Mathlib.Omega.{arith}
+use mathlib.Core.Path.{_≡_, sym, ap, _∙_}
+use borrow.Author.Needs.{needs}
+use borrow.Author.Count.{below-none}
+use lib.ListN.{length, getD, set, length-set}
+use Rattle.tokens.proofs.Columns.{all-zero, one-zero}
+use Rattle.reading.proofs.tables.clear.Statement.{statement}
+use Rattle.reading.proofs.tables.clear.Tie as tie
+
+abbrev Inv-loop : tie.InvT-loop
+Inv-loop column₀ i₀ column i = (length column ≡ length column₀) × (i ≤ length column) × ((k : ℕ) → k < i → getD column k 0 ≡ 0)
+
+abbrev μ-loop : tie.MeasureT-loop
+μ-loop column₀ i₀ column i = length column₀ - i
+
+loop-holds : tie.Need-loop-holds Inv-loop μ-loop
+loop-holds c = (search needs, omega arith, below-none _)
+
+mul-column : tie.Need-mul-column Inv-loop μ-loop
+mul-column c = search needs
+
+slice-write-column : tie.Need-slice-write-column Inv-loop μ-loop
+slice-write-column c = search needs
+
+add-i : tie.Need-add-i Inv-loop μ-loop
+add-i c = omega arith
+
+loop-less : tie.Need-loop-less Inv-loop μ-loop
+loop-less c = omega arith
+
+loop-again : tie.Need-loop-again Inv-loop μ-loop
+loop-again c =
+    let l = c .before .loop in
+    (length-set (l .column) (l .i) 0 ∙ l .inv .0, simp length-set (omega arith), one-zero (l .column) (l .i) (c .loop-test .taken) (l .inv .2))
+
+same-length : tie.Need-same-length Inv-loop μ-loop
+same-length c = c .before .loop .inv .0
+
+returns : tie.Need-returns Inv-loop μ-loop
+returns c = let l = c .before .loop in all-zero (l .column) _ (l .inv .0) (λ k h. l .inv .2 k (omega arith))
+
+pub clear-spec : {M : Type 1} → statement M
+clear-spec =
+    tie.close
+    (tie.spec
+    Inv-loop
+    μ-loop
+    loop-holds
+    mul-column
+    slice-write-column
+    add-i
+    loop-less
+    loop-again
+    same-length
+    returns)

@@ -1,0 +1,110 @@
+// The whole of reading: a guideline's bytes to its tables, or number and place of its refusal by 1, 2, 3, 10 or 6.
+mod room;
+mod tables;
+
+use limits::TokenList;
+use stages::Verdict;
+use tokens::Read;
+ghost use Rattle.parts.specs.Part.{table};
+ghost use Rattle.reading.specs.Reply.{Reply, Begun, Structured};
+
+// How many rows there are, in the tables; or number and place of the refusal.
+pub enum Reading {
+    Reads(usize),
+    Refused(u8, usize),
+}
+
+// From the tokens on.
+fn structured(
+    text: &[u8],
+    kinds: &[u8],
+    places: &[usize],
+    lengths: &[usize],
+    rows: &mut [u32],
+    codes: &mut [u8],
+    counts: &mut [u32],
+    sizes: &mut [u32],
+    loads: &mut [u32],
+    bytes: &mut [u8],
+) -> Reading
+    ensures { λ r. ⌜ Structured (now (text .entry)) (now (kinds .entry)) (now (places .entry)) (now (lengths .entry)) (now (rows .entry)) (table (now (codes .entry)) (now (counts .entry)) (now (sizes .entry)) (now (loads .entry)) (now (bytes .entry))) (now (rows .exit)) (table (now (codes .exit)) (now (counts .exit)) (now (sizes .exit)) (now (loads .exit)) (now (bytes .exit))) r ⌝ }
+{
+    let mut outline = [0u32; room::ROW_CELLS];
+    let short = room::short(
+        rows.len(),
+        codes.len(),
+        counts.len(),
+        sizes.len(),
+        loads.len(),
+        bytes.len(),
+    );
+    match stages::judge(text, kinds, places, lengths, &mut outline, short) {
+        Verdict::Refused(n, p) => Reading::Refused(n, p),
+        Verdict::Fine(n) => {
+            tables::fill(
+                text,
+                kinds,
+                places,
+                lengths,
+                n,
+                &outline,
+                rows,
+                codes,
+                counts,
+                sizes,
+                loads,
+                bytes,
+            );
+            Reading::Reads(n)
+        }
+    }
+}
+
+// The tokens, over blank tables.
+fn lexed(
+    text: &[u8],
+    rows: &mut [u32],
+    codes: &mut [u8],
+    counts: &mut [u32],
+    sizes: &mut [u32],
+    loads: &mut [u32],
+    bytes: &mut [u8],
+) -> Reading
+    ensures { λ r. ⌜ Begun (now (text .entry)) (now (rows .entry)) (table (now (codes .entry)) (now (counts .entry)) (now (sizes .entry)) (now (loads .entry)) (now (bytes .entry))) (now (rows .exit)) (table (now (codes .exit)) (now (counts .exit)) (now (sizes .exit)) (now (loads .exit)) (now (bytes .exit))) r ⌝ }
+{
+    let mut kinds = [0u8; TokenList::LIMIT];
+    let mut places = [0usize; TokenList::LIMIT];
+    let mut lengths = [0usize; TokenList::LIMIT];
+    match tokens::tokens(text, &mut kinds, &mut places, &mut lengths) {
+        Read::Short => Reading::Refused(6, text.len()),
+        Read::Refused(n, p) => Reading::Refused(n, p),
+        Read::Tokens(n) => structured(
+            text,
+            &kinds[..n],
+            &places,
+            &lengths,
+            rows,
+            codes,
+            counts,
+            sizes,
+            loads,
+            bytes,
+        ),
+    }
+}
+
+// Reads a guideline. All tables are blank where it is refused.
+pub fn read(
+    text: &[u8],
+    rows: &mut [u32],
+    codes: &mut [u8],
+    counts: &mut [u32],
+    sizes: &mut [u32],
+    loads: &mut [u32],
+    bytes: &mut [u8],
+) -> Reading
+    ensures { λ r. ⌜ Reply (now (text .entry)) (now (rows .entry)) (table (now (codes .entry)) (now (counts .entry)) (now (sizes .entry)) (now (loads .entry)) (now (bytes .entry))) (now (rows .exit)) (table (now (codes .exit)) (now (counts .exit)) (now (sizes .exit)) (now (loads .exit)) (now (bytes .exit))) r ⌝ }
+{
+    tables::blank(rows, codes, counts, sizes, loads, bytes);
+    lexed(text, rows, codes, counts, sizes, loads, bytes)
+}
