@@ -52,7 +52,7 @@ use Rattle.stages.specs.declared.Verdict.the-variants.{Fine, Refused}
 use Rattle.stages.specs.Judged.{Judges, Judged, Outcome}
 use Rattle.reading.specs.declared.Reading.{Reading}
 use Rattle.reading.specs.declared.Reading.the-variants as Reading
-use Rattle.reading.specs.Reply.{is-short, Short, zeros, Empty, Accepted, Reply, Begun, Structured, Copies, Ready, Fills}
+use Rattle.reading.specs.Reply.{is-short, Short, zeros, Empty, Accepted, Reply, Answered, Begun, Structured, Copies, Ready, Fills}
 
 -- ---- blank tables
 
@@ -278,8 +278,8 @@ module _ {x y : List ℕ} {t u : Table} (e : Empty x t y u) where
   }
   lent-again text z w (Reading.Refused n p) h = (subst (λ (S : Type 0). Turned S text n p) same-short (h .0), re-empty (h .1))
 
-  pub relent : {text z : List ℕ} {w : Table} {r : Reading} → Begun text y u z w r → Reply text x t z w r
-  relent {text} {z} {w} {r} h = lent-again text z w r (h .reply still-blank)
+  pub relent : {text z : List ℕ} {w : Table} {r : Reading} → Begun text y u z w r → Answered text x t z w r
+  relent {text} {z} {w} {r} h = record { reply = lent-again text z w r (h .reply still-blank) }
 
 -- ---- only one reply fits
 
@@ -314,17 +314,20 @@ not-both {p = p} a b = absurd (a .passed (b .refused .stage) p (b .stage) (b .re
 same-refusal : {n m p q : ℕ} → Refusals.refused n p ≡ Refusals.refused m q → Reading.Refused n p ≡ Reading.Refused m q
 same-refusal {n} {m} {p} {q} e = let x : n ≡ m = cc in let y : p ≡ q = cc in cc
 
-pub one-reply : (text x : List ℕ) (t : Table) {z w : List ℕ} {u v : Table} (r s : Reading) → Reply text x t z u r → Reply text x t w v s → (r ≡ s) × (z ≡ w) × (u ≡ v)
-one-reply text x t {z} {w} {u} {v} (Reading.Reads n) (Reading.Reads m) a b =
+same-reply : (text x : List ℕ) (t : Table) {z w : List ℕ} {u v : Table} (r s : Reading) → Reply text x t z u r → Reply text x t w v s → (r ≡ s) × (z ≡ w) × (u ≡ v)
+same-reply text x t {z} {w} {u} {v} (Reading.Reads n) (Reading.Reads m) a b =
     let e : a .guideline ≡ b .guideline = one-structure (subst (λ (ts : List Token). Structure ts (a .guideline)) (LexicalLaws.one-list (a .read .its) (b .read .its)) (a .read .structure)) (b .read .structure) in
     let c = a .count ∙ ap (λ (g : List TopLevel). length (flatten g)) e ∙ sym (b .count) in
     let o = one-encoding (same-lengths (a .long) (b .long)) (subst (λ (g : List TopLevel). Encoded (flatten g) z u) e (a .encoded)) (b .encoded) in
     (ap Reading.Reads c, o .0, o .1)
-one-reply text x t (Reading.Reads n) (Reading.Refused m p) a b = not-both a (b .0)
-one-reply text x t (Reading.Refused m p) (Reading.Reads n) a b = not-both b (a .0)
-one-reply text x t (Reading.Refused n p) (Reading.Refused m q) a b =
+same-reply text x t (Reading.Reads n) (Reading.Refused m p) a b = not-both a (b .0)
+same-reply text x t (Reading.Refused m p) (Reading.Reads n) a b = not-both b (a .0)
+same-reply text x t (Reading.Refused n p) (Reading.Refused m q) a b =
     let f = empties (a .1) (b .1) in
     (same-refusal (one-answer (Refusals.is-refused (a .0 .refused)) (Refusals.is-refused (b .0 .refused))), f .0, f .1)
+
+pub one-reply : {text x z w : List ℕ} {t u v : Table} {r s : Reading} → Answered text x t z u r → Answered text x t w v s → (r ≡ s) × (z ≡ w) × (u ≡ v)
+one-reply {text} {x} {t = t} {r = r} {s = s} a b = same-reply text x t r s (a .reply) (b .reply)
 
 -- ---- the tokens' reply
 

@@ -56,6 +56,9 @@ abbrev pub Reply : List ℕ → List ℕ → Table → List ℕ → Table → Re
 Reply text x t x′ t′ (Reads n) = Accepted text x t x′ t′ n
 Reply text x t x′ t′ (Refused n p) = Turned (Short x t) text n p × Empty x t x′ t′
 
+pub record Answered (text x : List ℕ) (t : Table) (x′ : List ℕ) (t′ : Table) (r : Reading) : Type 0 where
+  pub reply : Reply text x t x′ t′ r
+
 -- ---- the steps
 
 -- over blank tables

@@ -6,7 +6,7 @@ use limits::TokenList;
 use stages::Verdict;
 use tokens::Read;
 ghost use Rattle.parts.specs.Part.{table};
-ghost use Rattle.reading.specs.Reply.{Reply, Begun, Structured};
+ghost use Rattle.reading.specs.Reply.{Answered, Begun, Structured};
 
 // How many rows there are, in the tables; or number and place of the refusal.
 pub enum Reading {
@@ -103,7 +103,7 @@ pub fn read(
     loads: &mut [u32],
     bytes: &mut [u8],
 ) -> Reading
-    ensures { λ r. ⌜ Reply (now (text .entry)) (now (rows .entry)) (table (now (codes .entry)) (now (counts .entry)) (now (sizes .entry)) (now (loads .entry)) (now (bytes .entry))) (now (rows .exit)) (table (now (codes .exit)) (now (counts .exit)) (now (sizes .exit)) (now (loads .exit)) (now (bytes .exit))) r ⌝ }
+    ensures { λ r. ⌜ Answered (now (text .entry)) (now (rows .entry)) (table (now (codes .entry)) (now (counts .entry)) (now (sizes .entry)) (now (loads .entry)) (now (bytes .entry))) (now (rows .exit)) (table (now (codes .exit)) (now (counts .exit)) (now (sizes .exit)) (now (loads .exit)) (now (bytes .exit))) r ⌝ }
 {
     tables::blank(rows, codes, counts, sizes, loads, bytes);
     lexed(text, rows, codes, counts, sizes, loads, bytes)

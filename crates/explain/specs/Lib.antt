@@ -1,0 +1,4 @@
+pub mod Offer
+pub mod Spelling
+pub mod Cause
+pub mod Quotes

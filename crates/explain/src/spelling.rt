@@ -1,0 +1,74 @@
+// Each terminal as a person writes it, and which of them this edition does not run.
+ghost use mathlib.Core.Path.{_≡_};
+ghost use mathlib.Core.List.{[]};
+ghost use lib.ListN.{length, getD};
+ghost use Rattle.explain.specs.Spelling.{spellings, left-out};
+
+// Twenty-four bytes for each of the 101 terminals: how long its spelling is, the spelling, and blanks.
+const SPELLINGS: [u8; 2424] = *b"\
+\x05abort                  \x06action                 \x07against                \x03and                    \
+\x03AND                    \x08argument               \x0dargument_name          \x0aattributes             \
+\x0aautonomous             \x09candidate              \x07caption                \x0bchoice_mode            \
+\x09completed              \x09component              \x0aconfirming             \x07context                \
+\x0ccycle_repeat           \x0bcycle_until            \x04data                   \x04days                   \
+\x08decision               \x0ddefault_value          \x0aderivation             \x0bdescription            \
+\x0adirectives             \x03end                    \x07enquiry                \x09excluding              \
+\x0bfalse_value            \x03for                    \x04goal                   \x05hours                  \
+\x07include                \x08includes               \x04ltwh                   \x09mandatory              \
+\x14mandatory_validation   \x07minutes                \x08multiple               \x0anetsupport             \
+\x0aNetsupport             \x10number_of_cycles       \x07numeric                \x05oneof                  \
+\x08optional               \x02or                     \x02OR                     \x0bparam_value            \
+\x0aparameters             \x04plan                   \x0dpostcondition          \x0cprecondition           \
+\x08priority               \x09procedure              \x05range                  \x0erecommendation         \
+\x09result_of              \x13schedule_constraint    \x07seconds                \x06single                 \
+\x06source                 \x0csupport_mode           \x08symbolic               \x04task                   \
+\x08terminal               \x09terminate              \x07trigger                \x0atrue_value             \
+\x04type                   \x04unit                   \x0ewait_condition         \x05weeks                  \
+\x02::                     \x01;                      \x01.                      \x01,                      \
+\x01(                      \x01)                      \x01[                      \x01]                      \
+\x01:                      \x01=                      \x01#                      \x02++                     \
+\x01<                      \x02<=                     \x02=<                     \x01>                      \
+\x02>=                     \x02=>                     \x02!=                     \x01+                      \
+\x01-                      \x01*                      \x01/                      \x06a name                 \
+\x09yes or no              \x0ba data type            \x0aan integer             \x07a float                \
+\x17a text in double quotes";
+
+// For each terminal whether it names something that is read but not run.
+const LEFT_OUT: [u8; 101] =
+    *b"10000000100000011100111010001010001010011100100110000110100000010001010000000000101100000000000000000";
+
+fn wide(b: u8) -> usize
+    ensures { λ r. ⌜ r ≡ b ⌝ }
+{
+    b as usize
+}
+
+// How long the spelling of the terminal k is.
+pub fn size(k: u8) -> usize
+    ensures { λ r. ⌜ r ≡ length (getD spellings k []) ⌝ }
+{
+    if 100 < k {
+        return 0;
+    }
+    wide(SPELLINGS[wide(k) * 24])
+}
+
+// The byte j of the spelling of the terminal k.
+pub fn letter(k: u8, j: usize) -> u8
+    ensures { λ r. ⌜ r ≡ getD (getD spellings k []) j 0 ⌝ }
+{
+    if size(k) <= j {
+        return 0;
+    }
+    SPELLINGS[wide(k) * 24 + 1 + j]
+}
+
+// Whether the terminal k names something that this edition reads but does not run.
+pub fn is_left_out(k: u8) -> bool
+    ensures { λ r. ⌜ r ≡ left-out k ⌝ }
+{
+    if 100 < k {
+        return false;
+    }
+    LEFT_OUT[wide(k)] == 49
+}

@@ -1,0 +1,4 @@
+pub mod Lines
+pub mod Show
+pub mod Seen
+pub mod SeenLaws

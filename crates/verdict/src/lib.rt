@@ -1,0 +1,37 @@
+// What is decided of a whole text: it reads, or number and place of its refusal. For programs that want no tables.
+ghost use Rattle.verdict.specs.Decided.{Decides};
+use limits::Expressions;
+use limits::Guideline;
+use reading::Reading;
+
+pub enum Verdict {
+    Reads,
+    Refused(u8, usize),
+}
+
+// Cells for the rows of every text that has no more tokens than are allowed.
+const ROWS: usize = 10_920;
+
+// Reads the text into tables that are never short.
+pub fn decide(text: &[u8]) -> Verdict
+    ensures { λ r. ⌜ Decides (now (text .entry)) r ⌝ }
+{
+    let mut rows = [0u32; ROWS];
+    let mut codes = [0u8; Expressions::PARTS];
+    let mut counts = [0u32; Expressions::PARTS];
+    let mut sizes = [0u32; Expressions::PARTS];
+    let mut loads = [0u32; Expressions::PARTS];
+    let mut bytes = [0u8; Guideline::LIMIT];
+    match reading::read(
+        text,
+        &mut rows,
+        &mut codes,
+        &mut counts,
+        &mut sizes,
+        &mut loads,
+        &mut bytes,
+    ) {
+        Reading::Reads(_) => Verdict::Reads,
+        Reading::Refused(number, place) => Verdict::Refused(number, place),
+    }
+}
