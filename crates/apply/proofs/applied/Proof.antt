@@ -5,18 +5,6 @@ use Rattle.apply.specs.Applies.{by-number, no-number}
 use Rattle.apply.proofs.applied.Statement.{statement}
 use Rattle.apply.proofs.applied.Tie as tie
 
-one-requires : tie.Need-one-requires
-one-requires c κs = search needs
-
-two-requires : tie.Need-two-requires
-two-requires c κs = search needs
-
-three-requires : tie.Need-three-requires
-three-requires c κs = search needs
-
-single-requires : tie.Need-single-requires
-single-requires c κs = search needs
-
 returns : tie.Need-returns
 returns c = let a = c .before .before .before .before .before .args in by-number (a .bytes .now) (a .tasks .now) (a .states .now) (a .kind) (c .one .result) (a .n) 1 (a .a ∷ a .b ∷ a .c ∷ []) (c .before .match .keys1) (c .one .ensures)
 
@@ -33,10 +21,7 @@ pub applied-spec : {M : Type 1} → statement M
 applied-spec =
     tie.close
     (tie.spec
-    one-requires
-    two-requires
-    three-requires
-    single-requires
+    (λ c κs. search needs) (λ c κs. search needs) (λ c κs. search needs) (λ c κs. search needs)
     returns
     returns-2
     returns-3

@@ -3,17 +3,11 @@ use borrow.Author.Needs.{needs}
 use Rattle.evaluator.proofs.compound.Statement.{statement}
 use Rattle.evaluator.proofs.compound.Tie as tie
 
-many-requires : tie.Need-many-requires
-many-requires c κs = search needs
-
 returns : tie.Need-returns
 returns c = record { list = λ e. c .many .ensures; applied = λ n. absurd (n (c .before .before .if1 .taken)) }
-
-applied-requires : tie.Need-applied-requires
-applied-requires c κs = search needs
 
 returns-2 : tie.Need-returns-2
 returns-2 c = record { list = λ e. absurd (c .before .before .before .before .if1 .left e); applied = λ n. c .applied .ensures }
 
 pub compound-spec : {M : Type 1} → statement M
-compound-spec = tie.close (tie.spec many-requires returns applied-requires returns-2)
+compound-spec = tie.close (tie.spec (λ c κs. search needs) returns (λ c κs. search needs) returns-2)

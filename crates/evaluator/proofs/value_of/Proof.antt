@@ -6,13 +6,10 @@ use borrow.Author.Needs.{needs}
 use Rattle.evaluator.proofs.value_of.Statement.{statement}
 use Rattle.evaluator.proofs.value_of.Tie as tie
 
-part-value-requires : tie.Need-part-value-requires
-part-value-requires c κs = search needs
-
 returns : tie.Need-returns
 returns c =
     let a = c .before .before .before .before .before .before .before .before .before .before .before .args in
     published (table (a .kinds .now) (a .counts .now) (a .sizes .now) (a .loads .now) (a .bytes .now)) (columns (a .names .now) (a .tags .now) (a .cells .now) (a .tasks .now) (a .states .now)) (a .task) (a .end) (a .depth) (c .part-value .result) (c .part-value .ensures)
 
 pub value-of-spec : {M : Type 1} → statement M
-value-of-spec = tie.close (tie.spec part-value-requires returns)
+value-of-spec = tie.close (tie.spec (λ c κs. search needs) returns)

@@ -5,18 +5,9 @@ use borrow.Author.Needs.{needs}
 use Rattle.examine.proofs.examine_first.Statement.{statement}
 use Rattle.examine.proofs.examine_first.Tie as tie
 
-returns : tie.Need-returns
-returns c = search needs
-
 slice-aggregate-examine : tie.Need-slice-aggregate-examine
 slice-aggregate-examine c = simp length-take (omega arith)
 
-examine-requires : tie.Need-examine-requires
-examine-requires c κs = search needs
-
-returns-2 : tie.Need-returns-2
-returns-2 c = search needs
-
 pub examine-first-spec : {M : Type 1} → statement M
 examine-first-spec =
-    tie.close (tie.spec returns slice-aggregate-examine examine-requires returns-2)
+    tie.close (tie.spec (λ c. search needs) slice-aggregate-examine (λ c κs. search needs) (λ c. search needs))

@@ -21,35 +21,20 @@ abbrev μ-loop : tie.MeasureT-loop
 loop-holds : tie.Need-loop-holds Inv-loop μ-loop
 loop-holds c = refl
 
-element-copy-out-c : tie.Need-element-copy-out-c Inv-loop μ-loop
-element-copy-out-c c = search needs
-
 returns : tie.Need-returns Inv-loop μ-loop
 returns c =
     let n = c .before .before .before .before .pre in
     let l : c .before .before .before .loop .at < length (now (c .before .before .before .before .args .stack)) = omega arith in
     sym (c .before .before .before .loop .inv ∙ blank-token (now (c .before .before .before .before .args .stack)) (c .before .before .before .loop .at) l (c .if1 .taken))
 
-wide-requires : tie.Need-wide-requires Inv-loop μ-loop
-wide-requires c κs = search needs
-
 sub-may-be-empty : tie.Need-sub-may-be-empty Inv-loop μ-loop
 sub-may-be-empty c = let e = c .wide .ensures in let l = c .before .if1 .left in omega arith
-
-may-be-empty-requires : tie.Need-may-be-empty-requires Inv-loop μ-loop
-may-be-empty-requires c κs = search needs
 
 returns-2 : tie.Need-returns-2 Inv-loop μ-loop
 returns-2 c =
     let n = c .before .before .before .before .before .before .before .pre in
     let l : c .before .before .before .before .before .before .loop .at < length (now (c .before .before .before .before .before .before .before .args .stack)) = omega arith in
     sym (c .before .before .before .before .before .before .loop .inv ∙ blank-symbol (now (c .before .before .before .before .before .before .before .args .stack)) (c .before .before .before .before .before .before .loop .at) l (c .before .before .wide .result - 128) _ (c .before .before .before .if1 .left) (ap (λ (x : ℕ). x - 128) (c .before .before .wide .ensures)) (sym (not-true _ (c .if2 .taken)) ∙ c .before .may-be-empty .ensures))
-
-add-at : tie.Need-add-at Inv-loop μ-loop
-add-at c = search needs
-
-loop-less : tie.Need-loop-less Inv-loop μ-loop
-loop-less c = search needs
 
 loop-again : tie.Need-loop-again Inv-loop μ-loop
 loop-again c =
@@ -70,13 +55,12 @@ all-may-be-empty-spec =
     Inv-loop
     μ-loop
     loop-holds
-    element-copy-out-c
+    (λ c. search needs)
     returns
-    wide-requires
+    (λ c κs. search needs)
     sub-may-be-empty
-    may-be-empty-requires
+    (λ c κs. search needs)
     returns-2
-    add-at
-    loop-less
+    (λ c. search needs) (λ c. search needs)
     loop-again
     returns-3)

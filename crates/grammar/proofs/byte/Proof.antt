@@ -6,18 +6,9 @@ use Rattle.grammar.proofs.TableLaws.{byte-at}
 use Rattle.grammar.proofs.byte.Statement.{statement}
 use Rattle.grammar.proofs.byte.Tie as tie
 
-mul-result : tie.Need-mul-result
-mul-result c = search needs
-
-add-result : tie.Need-add-result
-add-result c = search needs
-
-array-read-result : tie.Need-array-read-result
-array-read-result c = search needs
-
 returns : tie.Need-returns
 unfolding rows alternatives alternatives-table
 returns c = byte-at (c .args .a) (c .args .j) (c .pre .0) (c .pre .1)
 
 pub byte-spec : {M : Type 1} → statement M
-byte-spec = tie.close (tie.spec mul-result add-result array-read-result returns)
+byte-spec = tie.close (tie.spec (λ c. search needs) (λ c. search needs) (λ c. search needs) returns)

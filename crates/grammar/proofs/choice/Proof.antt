@@ -7,21 +7,6 @@ use Rattle.grammar.proofs.TableLaws.{row-bounds, row-choice, no-choice}
 use Rattle.grammar.proofs.choice.Statement.{statement}
 use Rattle.grammar.proofs.choice.Tie as tie
 
-array-read-wide : tie.Need-array-read-wide
-array-read-wide c = search needs
-
-wide-requires : tie.Need-wide-requires
-wide-requires c κs = search needs
-
-add-wide : tie.Need-add-wide
-add-wide c = search needs
-
-array-read-wide-2 : tie.Need-array-read-wide-2
-array-read-wide-2 c = search needs
-
-wide-requires-2 : tie.Need-wide-requires-2
-wide-requires-2 c κs = search needs
-
 seek-requires : tie.Need-seek-requires
 unfolding rows rows-table
 seek-requires c κs = row-bounds (c .before .before .before .args .x) (c .before .before .if1 .taken) (c .before .wide .result) (c .wide2 .result) (c .before .wide .ensures) (c .wide2 .ensures)
@@ -37,11 +22,7 @@ pub choice-spec : {M : Type 1} → statement M
 choice-spec =
     tie.close
     (tie.spec
-    array-read-wide
-    wide-requires
-    add-wide
-    array-read-wide-2
-    wide-requires-2
+    (λ c. search needs) (λ c κs. search needs) (λ c. search needs) (λ c. search needs) (λ c κs. search needs)
     seek-requires
     returns
     returns-2)

@@ -17,12 +17,6 @@ abbrev μ-loop : tie.MeasureT-loop
 loop-holds : tie.Need-loop-holds Inv-loop μ-loop
 loop-holds c = (refl, omega arith, λ k h. omega arith)
 
-slice-write-labels : tie.Need-slice-write-labels Inv-loop μ-loop
-slice-write-labels c = search needs
-
-add-i : tie.Need-add-i Inv-loop μ-loop
-add-i c = search needs
-
 loop-less : tie.Need-loop-less Inv-loop μ-loop
 loop-less c = simp length-set (omega arith)
 
@@ -46,8 +40,7 @@ clear-spec =
     Inv-loop
     μ-loop
     loop-holds
-    slice-write-labels
-    add-i
+    (λ c. search needs) (λ c. search needs)
     loop-less
     loop-again
     same-length

@@ -7,12 +7,6 @@ use Rattle.grammar.specs.Reply.{form-of}
 use Rattle.grammar.proofs.code.Statement.{statement}
 use Rattle.grammar.proofs.code.Tie as tie
 
-enum-told : tie.Need-enum-told
-enum-told c = search needs
-
-enum-told-2 : tie.Need-enum-told-2
-enum-told-2 c = search needs
-
 returns : tie.Need-returns
 returns c = sym (ap (λ (s : Start). N (form-of s)) (c .enum-told .given .1))
 
@@ -20,4 +14,4 @@ returns-2 : tie.Need-returns-2
 returns-2 c = sym (ap (λ (s : Start). N (form-of s)) (c .enum-told2 .given .1))
 
 pub code-spec : {M : Type 1} → statement M
-code-spec = tie.close (tie.spec enum-told enum-told-2 returns returns-2)
+code-spec = tie.close (tie.spec (λ c. search needs) (λ c. search needs) returns returns-2)

@@ -7,9 +7,6 @@ use Rattle.grammar.proofs.TableLaws.{empty-at, empty-none}
 use Rattle.grammar.proofs.may_be_empty.Statement.{statement}
 use Rattle.grammar.proofs.may_be_empty.Tie as tie
 
-array-read-result : tie.Need-array-read-result
-array-read-result c = search needs
-
 returns : tie.Need-returns
 unfolding blanks empty-table
 returns c = empty-at (c .before .args .x) (c .if1 .taken)
@@ -18,4 +15,4 @@ returns-2 : tie.Need-returns-2
 returns-2 c = sym (empty-none (c .before .args .x) (c .if1 .left))
 
 pub may-be-empty-spec : {M : Type 1} → statement M
-may-be-empty-spec = tie.close (tie.spec array-read-result returns returns-2)
+may-be-empty-spec = tie.close (tie.spec (λ c. search needs) returns returns-2)

@@ -9,18 +9,6 @@ use Rattle.grammar.proofs.passes.Tie as tie
 returns : tie.Need-returns
 returns c = token-stays (c .before .args .k) (c .before .args .c) (c .if1 .taken)
 
-wide-requires : tie.Need-wide-requires
-wide-requires c κs = search needs
-
-sub-x : tie.Need-sub-x
-sub-x c = search needs
-
-choice-requires : tie.Need-choice-requires
-choice-requires c κs = search needs
-
-may-be-empty-requires : tie.Need-may-be-empty-requires
-may-be-empty-requires c κs = search needs
-
 returns-2 : tie.Need-returns-2
 returns-2 c = unless-chosen (c .before .before .before .before .before .args .k) (c .before .before .before .before .before .args .c) (c .before .before .before .wide .result - 128) (c .before .before .choice .result) (c .before .before .before .before .if1 .left) (ap (λ (n : ℕ). n - 128) (c .before .before .before .wide .ensures)) (c .before .before .choice .ensures) (c .may-be-empty .result) (c .before .if2 .taken) (c .may-be-empty .ensures)
 
@@ -32,9 +20,6 @@ passes-spec =
     tie.close
     (tie.spec
     returns
-    wide-requires
-    sub-x
-    choice-requires
-    may-be-empty-requires
+    (λ c κs. search needs) (λ c. search needs) (λ c κs. search needs) (λ c κs. search needs)
     returns-2
     returns-3)

@@ -19,12 +19,6 @@ Inv-loop stack₀ top a at₀ j₀ stack at j = ((j ≤ length (sideOf a)) × (a
 abbrev μ-loop : tie.MeasureT-loop
 μ-loop stack₀ top a at₀ j₀ stack at j = j
 
-byte-requires : tie.Need-byte-requires Inv-loop μ-loop
-byte-requires c κs = search needs
-
-wide-requires : tie.Need-wide-requires Inv-loop μ-loop
-wide-requires c κs = search needs
-
 loop-holds : tie.Need-loop-holds Inv-loop μ-loop
 loop-holds c =
     let a = c .before .before .args in
@@ -42,12 +36,6 @@ byte-requires-2 c κs = let s = side-short (c .before .before .before .before .a
 
 element-write-stack : tie.Need-element-write-stack Inv-loop μ-loop
 element-write-stack c = let s = side-short (c .before .before .before .before .before .args .a) in let p = c .before .before .before .before .before .pre .3 in let t = c .before .loop-test .taken in omega arith
-
-sub-j : tie.Need-sub-j Inv-loop μ-loop
-sub-j c = search needs
-
-loop-less : tie.Need-loop-less Inv-loop μ-loop
-loop-less c = search needs
 
 loop-again : tie.Need-loop-again Inv-loop μ-loop
 loop-again c =
@@ -78,14 +66,12 @@ push-spec =
     (tie.spec
     Inv-loop
     μ-loop
-    byte-requires
-    wide-requires
+    (λ c κs. search needs) (λ c κs. search needs)
     loop-holds
     sub-at
     add-byte
     byte-requires-2
     element-write-stack
-    sub-j
-    loop-less
+    (λ c. search needs) (λ c. search needs)
     loop-again
     returns)

@@ -9,14 +9,5 @@ use Rattle.grammar.proofs.put.Tie as tie
 returns : tie.Need-returns
 returns c = sym (set-out (now (c .before .args .labels)) (c .before .args .i) (c .before .args .l) (c .if1 .taken))
 
-slice-write-labels : tie.Need-slice-write-labels
-slice-write-labels c = search needs
-
-same-length : tie.Need-same-length
-same-length c = search needs
-
-returns-2 : tie.Need-returns-2
-returns-2 c = search needs
-
 pub put-spec : {M : Type 1} → statement M
-put-spec = tie.close (tie.spec returns slice-write-labels same-length returns-2)
+put-spec = tie.close (tie.spec returns (λ c. search needs) (λ c. search needs) (λ c. search needs))

@@ -8,26 +8,11 @@ use Rattle.grammar.proofs.ReadLaws.{reply, unread}
 use Rattle.grammar.proofs.read.Statement.{statement}
 use Rattle.grammar.proofs.read.Tie as tie
 
-clear-requires : tie.Need-clear-requires
-clear-requires c κs = search needs
-
-same-length : tie.Need-same-length
-same-length c = search needs
-
 returns : tie.Need-returns
 returns c = unread (c .before .before .before .before .before .before .before .args .start) (now (c .before .before .before .before .before .before .before .args .kinds)) _ (c .if1 .taken) (c .before .before .before .clear .ensures)
 
-code-requires : tie.Need-code-requires
-code-requires c κs = search needs
-
-array-write-stack : tie.Need-array-write-stack
-array-write-stack c = search needs
-
 walk-requires : tie.Need-walk-requires
 walk-requires c κs = (length-set (replicate 32768 0) 32767 (c .before .before .code .result) ∙ length-replicate {A = ℕ} 32768 0, c .before .before .before .if1 .left, c .before .before .before .before .before .before .clear .ensures)
-
-same-length-2 : tie.Need-same-length-2
-same-length-2 c = search needs
 
 returns-2 : tie.Need-returns-2
 returns-2 c = reply (c .before .before .before .before .before .before .before .before .before .before .before .before .before .args .start) (now (c .before .before .before .before .before .before .before .before .before .before .before .before .before .args .kinds)) _ (replicate 32768 0) (c .before .before .before .before .before .code .result) (c .before .before .walk .result) (c .before .before .before .before .before .before .if1 .left) (length-replicate {A = ℕ} 32768 0) (c .before .before .before .before .before .code .ensures) (c .before .before .walk .ensures)
@@ -36,11 +21,9 @@ pub read-spec : {M : Type 1} → statement M
 read-spec =
     tie.close
     (tie.spec
-    clear-requires
-    same-length
+    (λ c κs. search needs) (λ c. search needs)
     returns
-    code-requires
-    array-write-stack
+    (λ c κs. search needs) (λ c. search needs)
     walk-requires
-    same-length-2
+    (λ c. search needs)
     returns-2)

@@ -17,20 +17,8 @@ abbrev μ-loop : tie.MeasureT-loop
 loop-holds : tie.Need-loop-holds Inv-loop μ-loop
 loop-holds c = (search needs, refl)
 
-byte-requires : tie.Need-byte-requires Inv-loop μ-loop
-byte-requires c κs = search needs
-
-add-result : tie.Need-add-result Inv-loop μ-loop
-add-result c = search needs
-
 returns : tie.Need-returns Inv-loop μ-loop
 returns c = sym (c .before .before .before .loop .inv .1 ∙ seek-hit (c .before .before .before .before .args .k) (c .before .before .before .loop .a) (c .before .before .before .before .args .to) (c .before .before .loop-test .taken) (c .before .before .before .before .pre .1) (sym (c .before .byte .ensures) ∙ c .if1 .taken))
-
-add-a : tie.Need-add-a Inv-loop μ-loop
-add-a c = search needs
-
-loop-less : tie.Need-loop-less Inv-loop μ-loop
-loop-less c = search needs
 
 loop-again : tie.Need-loop-again Inv-loop μ-loop
 loop-again c = (search needs, c .before .before .before .loop .inv .1 ∙ seek-miss (c .before .before .before .before .args .k) (c .before .before .before .loop .a) (c .before .before .before .before .args .to) (c .before .before .loop-test .taken) (c .before .before .before .before .pre .1) (λ e. c .if1 .left (c .before .byte .ensures ∙ e)))
@@ -45,10 +33,8 @@ seek-spec =
     Inv-loop
     μ-loop
     loop-holds
-    byte-requires
-    add-result
+    (λ c κs. search needs) (λ c. search needs)
     returns
-    add-a
-    loop-less
+    (λ c. search needs) (λ c. search needs)
     loop-again
     returns-2)

@@ -20,23 +20,11 @@ abbrev μ-loop : tie.MeasureT-loop
 loop-holds : tie.Need-loop-holds Inv-loop μ-loop
 loop-holds c = (search needs, refl)
 
-element-copy-out-passes : tie.Need-element-copy-out-passes Inv-loop μ-loop
-element-copy-out-passes c = search needs
-
-passes-requires : tie.Need-passes-requires Inv-loop μ-loop
-passes-requires c κs = search needs
-
 returns : tie.Need-returns Inv-loop μ-loop
 returns c =
     let n = c .before .before .before .before .before .pre .0 in
     let l : c .before .before .before .before .loop .at < length (now (c .before .before .before .before .before .args .stack)) = omega arith in
     (search needs, past-stays (now (c .before .before .before .before .before .args .stack)) (c .before .before .before .before .loop .at) l (c .before .before .before .before .before .args .k) (sym (not-true _ (c .if1 .taken)) ∙ c .before .passes .ensures) ∙ sym (c .before .before .before .before .loop .inv .1))
-
-add-at : tie.Need-add-at Inv-loop μ-loop
-add-at c = search needs
-
-loop-less : tie.Need-loop-less Inv-loop μ-loop
-loop-less c = search needs
 
 loop-again : tie.Need-loop-again Inv-loop μ-loop
 loop-again c =
@@ -57,10 +45,8 @@ skip-spec =
     Inv-loop
     μ-loop
     loop-holds
-    element-copy-out-passes
-    passes-requires
+    (λ c. search needs) (λ c κs. search needs)
     returns
-    add-at
-    loop-less
+    (λ c. search needs) (λ c. search needs)
     loop-again
     returns-2)

@@ -9,9 +9,6 @@ use Rattle.grammar.proofs.MachineLaws.{none-left, taken, unlabelled, an
 use Rattle.grammar.proofs.step.Statement.{statement}
 use Rattle.grammar.proofs.step.Tie as tie
 
-skip-requires : tie.Need-skip-requires
-skip-requires c κs = search needs
-
 returns : tie.Need-returns
 returns c =
     let a = c .before .before .before .args in
@@ -19,12 +16,6 @@ returns c =
     let n = c .before .before .before .pre .0 in
     let l : length (now (a .stack)) ≤ s .result = omega arith in
     none-left (now (a .stack)) (a .top) (s .result) (a .k) (s .ensures .1) l
-
-element-copy-out-c : tie.Need-element-copy-out-c
-element-copy-out-c c = search needs
-
-add-t14 : tie.Need-add-t14
-add-t14 c = search needs
 
 returns-2 : tie.Need-returns-2
 returns-2 c =
@@ -44,15 +35,6 @@ returns-3 c =
     let l : s .result < length (now (a .stack)) = omega arith in
     another (now (a .stack)) (a .top) (s .result) (a .k) (s .ensures .1) l (c .before .if2 .taken) (c .if3 .left)
 
-wide-requires : tie.Need-wide-requires
-wide-requires c κs = search needs
-
-sub-choice : tie.Need-sub-choice
-sub-choice c = search needs
-
-choice-requires : tie.Need-choice-requires
-choice-requires c κs = search needs
-
 returns-4 : tie.Need-returns-4
 returns-4 c =
     let a = c .before .before .before .before .before .before .before .before .args in
@@ -61,12 +43,6 @@ returns-4 c =
     let b = s .ensures .0 in
     let l : s .result < length (now (a .stack)) = omega arith in
     no-alternative (now (a .stack)) (a .top) (s .result) (a .k) (s .ensures .1) l (c .before .before .wide .result - 128) (c .before .choice .result) (c .before .before .before .if2 .left) (ap (λ (x : ℕ). x - 128) (c .before .before .wide .ensures)) (c .before .choice .ensures) (c .if4 .taken)
-
-add-push : tie.Need-add-push
-add-push c = search needs
-
-sub-push : tie.Need-sub-push
-sub-push c = search needs
 
 push-requires : tie.Need-push-requires
 push-requires c κs =
@@ -79,9 +55,6 @@ push-requires c κs =
     let l : s .result < length (now (a .stack)) = omega arith in
     let i = in-table (now (a .stack)) (a .top) (s .result) (a .k) (s .ensures .1) l (c .before .before .before .wide .result - 128) (c .before .before .choice .result) (c .before .before .before .before .if2 .left) (ap (λ (x : ℕ). x - 128) (c .before .before .before .wide .ensures)) (c .before .before .choice .ensures) z in
     (n, omega arith, omega arith, omega arith)
-
-sub-t12 : tie.Need-sub-t12
-sub-t12 c = search needs
 
 returns-5 : tie.Need-returns-5
 returns-5 c =
@@ -109,18 +82,14 @@ pub step-spec : {M : Type 1} → statement M
 step-spec =
     tie.close
     (tie.spec
-    skip-requires
+    (λ c κs. search needs)
     returns
-    element-copy-out-c
-    add-t14
+    (λ c. search needs) (λ c. search needs)
     returns-2
     returns-3
-    wide-requires
-    sub-choice
-    choice-requires
+    (λ c κs. search needs) (λ c. search needs) (λ c κs. search needs)
     returns-4
-    add-push
-    sub-push
+    (λ c. search needs) (λ c. search needs)
     push-requires
-    sub-t12
+    (λ c. search needs)
     returns-5)

@@ -20,21 +20,12 @@ abbrev μ-loop : tie.MeasureT-loop
 loop-holds : tie.Need-loop-holds Inv-loop μ-loop
 loop-holds c = ((omega arith, omega arith), c .before .before .pre .0, refl, begins (syms 32767 (now (c .before .before .args .stack))) (now (c .before .before .args .kinds)) (now (c .before .before .args .labels)) (c .before .before .pre .2))
 
-shared-slice-read-step : tie.Need-shared-slice-read-step Inv-loop μ-loop
-shared-slice-read-step c = search needs
-
 step-requires : tie.Need-step-requires Inv-loop μ-loop
 step-requires c κs =
     let p = c .before .before .before .before .before .before .pre .1 in
     let i = c .before .before .before .loop .inv .0 in
     let t = c .before .before .loop-test .taken in
     (c .before .before .before .loop .inv .1, omega arith, omega arith)
-
-enum-known-t : tie.Need-enum-known-t Inv-loop μ-loop
-enum-known-t c = search needs
-
-enum-told : tie.Need-enum-told Inv-loop μ-loop
-enum-told c = search needs
 
 same-length : tie.Need-same-length Inv-loop μ-loop
 same-length c = c .before .before .before .before .before .before .loop .inv .2
@@ -46,15 +37,6 @@ returns c =
     let k = getD (now (a .kinds)) (l .i) 0 in
     let s = c .before .before .step in
     stops (syms 32767 (now (a .stack))) (now (a .kinds)) (l .labels) (syms (l .top) (l .stack)) (l .i) (l .inv .3) (c .before .before .before .before .before .loop-test .taken) (turned (drop (l .top) (l .stack)) k (l .top) (s .last .0) (s .result) Stuck (c .enum-told .given .1) (s .ensures))
-
-put-requires : tie.Need-put-requires Inv-loop μ-loop
-put-requires c κs = search needs
-
-add-i : tie.Need-add-i Inv-loop μ-loop
-add-i c = search needs
-
-loop-less : tie.Need-loop-less Inv-loop μ-loop
-loop-less c = search needs
 
 loop-again : tie.Need-loop-again Inv-loop μ-loop
 loop-again c =
@@ -102,15 +84,12 @@ walk-spec =
     Inv-loop
     μ-loop
     loop-holds
-    shared-slice-read-step
+    (λ c. search needs)
     step-requires
-    enum-known-t
-    enum-told
+    (λ c. search needs) (λ c. search needs)
     same-length
     returns
-    put-requires
-    add-i
-    loop-less
+    (λ c κs. search needs) (λ c. search needs) (λ c. search needs)
     loop-again
     all-may-be-empty-requires
     same-length-2

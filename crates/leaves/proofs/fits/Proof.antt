@@ -8,14 +8,8 @@ use Rattle.leaves.proofs.fits.Tie as tie
 returns : tie.Need-returns
 returns c = (λ e. contra e, λ h. absurd (omega arith))
 
-sub-if2 : tie.Need-sub-if2
-sub-if2 c = search needs
-
 returns-2 : tie.Need-returns-2
 returns-2 c = (λ e. contra e, λ h. absurd (omega arith))
 
-returns-3 : tie.Need-returns-3
-returns-3 c = search needs
-
 pub fits-spec : {M : Type 1} → statement M
-fits-spec = tie.close (tie.spec returns sub-if2 returns-2 returns-3)
+fits-spec = tie.close (tie.spec returns (λ c. search needs) returns-2 (λ c. search needs))

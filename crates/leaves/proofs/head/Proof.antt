@@ -5,15 +5,6 @@ use borrow.Author.Needs.{needs}
 use Rattle.leaves.proofs.head.Statement.{statement}
 use Rattle.leaves.proofs.head.Tie as tie
 
-inside-requires : tie.Need-inside-requires
-inside-requires c κs = search needs
-
-functor-requires : tie.Need-functor-requires
-functor-requires c κs = search needs
-
-handle-requires : tie.Need-handle-requires
-handle-requires c κs = search needs
-
 returns : tie.Need-returns
 returns c =
     let s = (c .before .before .before .inside) in
@@ -25,4 +16,4 @@ returns-2 c =
     λ t k g l. head-known g ((c .before .before .before .before) .pre) (record { kind = (c .before .functor) .result; load = 0 }) (s .result .at) (s .result .n) (s .ensures .0) ((c .before .functor) .ensures) ((c .if1) .left) refl
 
 pub head-spec : {M : Type 1} → statement M
-head-spec = tie.close (tie.spec inside-requires functor-requires handle-requires returns returns-2)
+head-spec = tie.close (tie.spec (λ c κs. search needs) (λ c κs. search needs) (λ c κs. search needs) returns returns-2)

@@ -6,23 +6,11 @@ use borrow.Author.Needs.{needs}
 use Rattle.leaves.proofs.leaf.Statement.{statement}
 use Rattle.leaves.proofs.leaf.Tie as tie
 
-integer-requires : tie.Need-integer-requires
-integer-requires c κs = search needs
-
 returns : tie.Need-returns
 returns c = λ t e g l. says-integer g ((c .before .before .before) .pre) (record { kind = 2; load = (c .integer) .result }) ((c .before .if1) .taken) ((c .integer) .ensures) refl l
 
-float-requires : tie.Need-float-requires
-float-requires c κs = search needs
-
 returns-2 : tie.Need-returns-2
 returns-2 c = λ t e g l. says-float g ((c .before .before .before .before) .pre) (record { kind = 3; load = (c .float) .result }) ((c .before .if2) .taken) ((c .float) .ensures) refl l
-
-inside-requires : tie.Need-inside-requires
-inside-requires c κs = search needs
-
-handle-requires : tie.Need-handle-requires
-handle-requires c κs = search needs
 
 returns-3 : tie.Need-returns-3
 returns-3 c =
@@ -48,12 +36,11 @@ pub leaf-spec : {M : Type 1} → statement M
 leaf-spec =
     tie.close
     (tie.spec
-    integer-requires
+    (λ c κs. search needs)
     returns
-    float-requires
+    (λ c κs. search needs)
     returns-2
-    inside-requires
-    handle-requires
+    (λ c κs. search needs) (λ c κs. search needs)
     returns-3
     returns-4
     returns-5

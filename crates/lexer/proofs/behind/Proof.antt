@@ -10,14 +10,5 @@ use Rattle.lexer.proofs.behind.Tie as tie
 returns : tie.Need-returns
 returns c = let s = c .before .before .args in sym (end-digits (s .text .now) (s .p + 1) (s .end) (omega arith))
 
-add-digits : tie.Need-add-digits
-add-digits c = search needs
-
-digits-requires : tie.Need-digits-requires
-digits-requires c κs = search needs
-
-returns-2 : tie.Need-returns-2
-returns-2 c = search needs
-
 pub behind-spec : {M : Type 1} → statement M
-behind-spec = tie.close (tie.spec returns add-digits digits-requires returns-2)
+behind-spec = tie.close (tie.spec returns (λ c. search needs) (λ c κs. search needs) (λ c. search needs))

@@ -40,12 +40,6 @@ quoted-requires c κs =
     let i = inside (s .args .text .now) (s .args .at) (s .args .best) (s .pre .0) (s .pre .1) in
     (string-fits (s .args .text .now) (s .args .at) (s .args .best) (s .pre .0) (s .pre .1) (c .match .keys5), omega arith)
 
-bare-requires : tie.Need-bare-requires
-bare-requires c κs = search needs
-
-bare-requires-2 : tie.Need-bare-requires-2
-bare-requires-2 c κs = search needs
-
 returns : tie.Need-returns
 returns c =
     let s = c .before .before .before in
@@ -98,8 +92,7 @@ describe-spec =
     plain-requires
     number-requires-2
     quoted-requires
-    bare-requires
-    bare-requires-2
+    (λ c κs. search needs) (λ c κs. search needs)
     returns
     returns-2
     returns-3

@@ -20,15 +20,6 @@ abbrev μ-loop : tie.MeasureT-loop
 loop-holds : tie.Need-loop-holds Inv-loop μ-loop
 loop-holds c = (omega arith, omega arith, omega arith)
 
-shared-slice-read-kind : tie.Need-shared-slice-read-kind Inv-loop μ-loop
-shared-slice-read-kind c = omega arith
-
-kind-requires : tie.Need-kind-requires Inv-loop μ-loop
-kind-requires c κs = search needs
-
-sub-result : tie.Need-sub-result Inv-loop μ-loop
-sub-result c = omega arith
-
 returns : tie.Need-returns Inv-loop μ-loop
 returns c =
     let s = c .before .before .before .before .before .before in
@@ -36,21 +27,12 @@ returns c =
     let z = stop-digits (s .args .text .now) (l .i) (s .args .end) (c .before .before .before .loop-test .taken) (s .pre .1) (λ e. c .if1 .taken (c .before .kind .ensures ∙ e)) in
     (omega arith, omega arith)
 
-add-i : tie.Need-add-i Inv-loop μ-loop
-add-i c = omega arith
-
-loop-less : tie.Need-loop-less Inv-loop μ-loop
-loop-less c = omega arith
-
 loop-again : tie.Need-loop-again Inv-loop μ-loop
 loop-again c =
     let s = c .before .before .before .before .before .before in
     let l = c .before .before .before .before .loop in
     let z = more-digits (s .args .text .now) (l .i) (s .args .end) (c .before .before .before .loop-test .taken) (s .pre .1) (sym (c .before .kind .ensures) ∙ c .if1 .left) in
     (omega arith, omega arith, omega arith)
-
-sub-result-2 : tie.Need-sub-result-2 Inv-loop μ-loop
-sub-result-2 c = omega arith
 
 returns-2 : tie.Need-returns-2 Inv-loop μ-loop
 returns-2 c =
@@ -66,12 +48,9 @@ digits-spec =
     Inv-loop
     μ-loop
     loop-holds
-    shared-slice-read-kind
-    kind-requires
-    sub-result
+    (λ c. omega arith) (λ c κs. search needs) (λ c. omega arith)
     returns
-    add-i
-    loop-less
+    (λ c. omega arith) (λ c. omega arith)
     loop-again
-    sub-result-2
+    (λ c. omega arith)
     returns-2)

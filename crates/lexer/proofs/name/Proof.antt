@@ -6,21 +6,6 @@ use Rattle.lexer.specs.Answer.{quotedOf}
 use Rattle.lexer.proofs.name.Statement.{statement}
 use Rattle.lexer.proofs.name.Tie as tie
 
-add-look-up : tie.Need-add-look-up
-add-look-up c = search needs
-
-sub-look-up : tie.Need-sub-look-up
-sub-look-up c = search needs
-
-look-up-requires : tie.Need-look-up-requires
-look-up-requires c κs = search needs
-
-atom-kind-requires : tie.Need-atom-kind-requires
-atom-kind-requires c κs = search needs
-
-quoted-requires : tie.Need-quoted-requires
-quoted-requires c κs = search needs
-
 returns : tie.Need-returns
 returns c =
     record {
@@ -32,4 +17,4 @@ returns c =
 pub name-spec : {M : Type 1} → statement M
 name-spec =
     tie.close
-    (tie.spec add-look-up sub-look-up look-up-requires atom-kind-requires quoted-requires returns)
+    (tie.spec (λ c. search needs) (λ c. search needs) (λ c κs. search needs) (λ c κs. search needs) (λ c κs. search needs) returns)

@@ -11,27 +11,6 @@ use Rattle.lexer.proofs.Numbers.{first-byte, sign-is, minus-is, whole-i
 use Rattle.lexer.proofs.number.Statement.{statement}
 use Rattle.lexer.proofs.number.Tie as tie
 
-add-end : tie.Need-add-end
-add-end c = search needs
-
-shared-slice-read-sign : tie.Need-shared-slice-read-sign
-shared-slice-read-sign c = search needs
-
-sign-requires : tie.Need-sign-requires
-sign-requires c κs = search needs
-
-add-from : tie.Need-add-from
-add-from c = search needs
-
-digits-requires : tie.Need-digits-requires
-digits-requires c κs = search needs
-
-add-point : tie.Need-add-point
-add-point c = search needs
-
-behind-requires : tie.Need-behind-requires
-behind-requires c κs = search needs
-
 returns : tie.Need-returns
 returns c =
     let a = c .before .before .before .before .before .args in
@@ -53,11 +32,6 @@ pub number-spec : {M : Type 1} → statement M
 number-spec =
     tie.close
     (tie.spec
-    add-end
-    shared-slice-read-sign
-    sign-requires
-    add-from
-    digits-requires
-    add-point
-    behind-requires
+    (λ c. search needs) (λ c. search needs) (λ c κs. search needs) (λ c. search needs) (λ c κs. search needs) (λ c. search needs)
+    (λ c κs. search needs)
     returns)

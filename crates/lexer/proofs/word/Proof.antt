@@ -6,15 +6,6 @@ use Rattle.lexer.specs.Answer.{bareOf}
 use Rattle.lexer.proofs.word.Statement.{statement}
 use Rattle.lexer.proofs.word.Tie as tie
 
-look-up-requires : tie.Need-look-up-requires
-look-up-requires c κs = search needs
-
-word-kind-requires : tie.Need-word-kind-requires
-word-kind-requires c κs = search needs
-
-bare-requires : tie.Need-bare-requires
-bare-requires c κs = search needs
-
 returns : tie.Need-returns
 returns c =
     record {
@@ -24,4 +15,4 @@ returns c =
     }
 
 pub word-spec : {M : Type 1} → statement M
-word-spec = tie.close (tie.spec look-up-requires word-kind-requires bare-requires returns)
+word-spec = tie.close (tie.spec (λ c κs. search needs) (λ c κs. search needs) (λ c κs. search needs) returns)

@@ -10,18 +10,9 @@ returns c = full (c .before .args .b) (c .if1 .taken)
 returns-2 : tie.Need-returns-2
 returns-2 c = no-room (c .before .before .args .b) (c .before .if1 .left) (c .if2 .taken)
 
-slice-write-kept : tie.Need-slice-write-kept
-slice-write-kept c = search needs
-
-add-result : tie.Need-add-result
-add-result c = search needs
-
-same-length : tie.Need-same-length
-same-length c = search needs
-
 returns-3 : tie.Need-returns-3
 returns-3 c = behind (c .before .before .args .b) (c .before .if1 .left)
 
 pub keep-spec : {M : Type 1} → statement M
 keep-spec =
-    tie.close (tie.spec returns returns-2 slice-write-kept add-result same-length returns-3)
+    tie.close (tie.spec returns returns-2 (λ c. search needs) (λ c. search needs) (λ c. search needs) returns-3)

@@ -21,28 +21,10 @@ abbrev μ-loop : tie.MeasureT-loop
 loop-holds : tie.Need-loop-holds Inv-loop μ-loop
 loop-holds c = (refl, λ _ _ h. h)
 
-shared-slice-read-b : tie.Need-shared-slice-read-b Inv-loop μ-loop
-shared-slice-read-b c = search needs
-
-add-t12 : tie.Need-add-t12 Inv-loop μ-loop
-add-t12 c = search needs
-
-same-length : tie.Need-same-length Inv-loop μ-loop
-same-length c = search needs
-
 returns : tie.Need-returns Inv-loop μ-loop
 returns c =
     let l = c .before .before .before .loop in
     l .inv .1 _ _ (at-newline _ _ (c .before .before .loop-test .taken) (c .if1 .taken))
-
-keep-requires : tie.Need-keep-requires Inv-loop μ-loop
-keep-requires c κs = search needs
-
-add-at : tie.Need-add-at Inv-loop μ-loop
-add-at c = search needs
-
-loop-less : tie.Need-loop-less Inv-loop μ-loop
-loop-less c = search needs
 
 loop-again : tie.Need-loop-again Inv-loop μ-loop
 loop-again c =
@@ -50,9 +32,6 @@ loop-again c =
     let on = c .before .before .before .before .before .before .loop-test .taken in
     let other = c .before .before .before .before .if1 .left in
     (search needs, λ kept′ r t. l .inv .1 kept′ r (at-byte _ _ on other (c .before .before .keep .ensures) t))
-
-same-length-2 : tie.Need-same-length-2 Inv-loop μ-loop
-same-length-2 c = search needs
 
 returns-2 : tie.Need-returns-2 Inv-loop μ-loop
 returns-2 c = let l = c .before .loop in l .inv .1 _ _ (at-end (c .loop-test .left))
@@ -64,13 +43,9 @@ take-spec =
     Inv-loop
     μ-loop
     loop-holds
-    shared-slice-read-b
-    add-t12
-    same-length
+    (λ c. search needs) (λ c. search needs) (λ c. search needs)
     returns
-    keep-requires
-    add-at
-    loop-less
+    (λ c κs. search needs) (λ c. search needs) (λ c. search needs)
     loop-again
-    same-length-2
+    (λ c. search needs)
     returns-2)

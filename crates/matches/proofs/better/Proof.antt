@@ -8,9 +8,6 @@ use borrow.Author.Needs.{needs}
 use Rattle.matches.proofs.better.Statement.{statement}
 use Rattle.matches.proofs.better.Tie as tie
 
-accepting-requires : tie.Need-accepting-requires
-accepting-requires c κs = search needs
-
 returns : tie.Need-returns
 returns c =
     let a = c .before .before .before in
@@ -29,4 +26,4 @@ returns-3 : tie.Need-returns-3
 returns-3 c = sym (cond-not (accOf (c .before .before .args .q)) _ _ (sym (c .before .accepting .ensures) ∙ c .if1 .left))
 
 pub better-spec : {M : Type 1} → statement M
-better-spec = tie.close (tie.spec accepting-requires returns returns-2 returns-3)
+better-spec = tie.close (tie.spec (λ c κs. search needs) returns returns-2 returns-3)

@@ -20,20 +20,8 @@ abbrev μ-loop : tie.MeasureT-loop
 loop-holds : tie.Need-loop-holds Inv-loop μ-loop
 loop-holds c = (omega arith, λ p x. let h = x .inside in omega arith)
 
-sub-closes : tie.Need-sub-closes Inv-loop μ-loop
-sub-closes c = search needs
-
-closes-requires : tie.Need-closes-requires Inv-loop μ-loop
-closes-requires c κs = search needs
-
 returns : tie.Need-returns Inv-loop μ-loop
 returns c = c .before .before .before .loop .inv .1
-
-sub-p : tie.Need-sub-p Inv-loop μ-loop
-sub-p c = search needs
-
-loop-less : tie.Need-loop-less Inv-loop μ-loop
-loop-less c = omega arith
 
 loop-again : tie.Need-loop-again Inv-loop μ-loop
 loop-again c =
@@ -56,10 +44,8 @@ last-end-spec =
     Inv-loop
     μ-loop
     loop-holds
-    sub-closes
-    closes-requires
+    (λ c. search needs) (λ c κs. search needs)
     returns
-    sub-p
-    loop-less
+    (λ c. search needs) (λ c. omega arith)
     loop-again
     returns-2)

@@ -4,16 +4,10 @@ use Rattle.matches.proofs.Ends.{shut-none}
 use Rattle.matches.proofs.longest.Statement.{statement}
 use Rattle.matches.proofs.longest.Tie as tie
 
-hopeless-requires : tie.Need-hopeless-requires
-hopeless-requires c κs = search needs
-
 walk-requires : tie.Need-walk-requires
 walk-requires c κs =
     let s = c .before .before in
     (s .pre .0, λ e. shut-none (s .args .text .now) (s .args .at) (s .args .last) (s .pre .1) (c .hopeless .ensures e))
 
-returns : tie.Need-returns
-returns c = search needs
-
 pub longest-spec : {M : Type 1} → statement M
-longest-spec = tie.close (tie.spec hopeless-requires walk-requires returns)
+longest-spec = tie.close (tie.spec (λ c κs. search needs) walk-requires (λ c. search needs))

@@ -40,9 +40,6 @@ begin-length : (shut : Bool) → length (beginOf shut) ≡ 7
 begin-length true = refl
 begin-length false = refl
 
-begin-requires : tie.Need-begin-requires Inv-rules μ-rules Inv-walk μ-walk
-begin-requires c κs = search needs
-
 walk-holds : tie.Need-walk-holds Inv-rules μ-rules Inv-walk μ-walk
 walk-holds c =
     let s = c .before .before in
@@ -59,18 +56,6 @@ walk-holds c =
       subst (λ (p : ℕ). Sofar t at p (record { len = 0; rule = 0; state = 0 })) y (sofar-none t at g ok (record { len = 0; rule = 0; state = 0 }) refl),
     )
 
-shared-slice-read-kind : tie.Need-shared-slice-read-kind Inv-rules μ-rules Inv-walk μ-walk
-shared-slice-read-kind c = search needs
-
-kind-requires : tie.Need-kind-requires Inv-rules μ-rules Inv-walk μ-walk
-kind-requires c κs = search needs
-
-sub-n : tie.Need-sub-n Inv-rules μ-rules Inv-walk μ-walk
-sub-n c = search needs
-
-add-n : tie.Need-add-n Inv-rules μ-rules Inv-walk μ-walk
-add-n c = search needs
-
 rules-holds : tie.Need-rules-holds Inv-rules μ-rules Inv-walk μ-walk
 rules-holds c =
     let w = c .before .before .before .walk in
@@ -84,12 +69,6 @@ rules-holds c =
       λ z. below-none _,
       subst (λ (p : ℕ). Sofar (s .args .text .now) (s .args .at) p (w .best)) y (w .inv .4),
     )
-
-mul-next : tie.Need-mul-next Inv-rules μ-rules Inv-walk μ-walk
-mul-next c = search needs
-
-array-read-next : tie.Need-array-read-next Inv-rules μ-rules Inv-walk μ-walk
-array-read-next c = search needs
 
 next-requires : tie.Need-next-requires Inv-rules μ-rules Inv-walk μ-walk
 next-requires c κs =
@@ -106,12 +85,6 @@ next-requires c κs =
     let f = fine-small (getD t (w .i) 0) in
     let k = c .before .before .kind .ensures in
     (omega arith, omega arith)
-
-mul-states : tie.Need-mul-states Inv-rules μ-rules Inv-walk μ-walk
-mul-states c = search needs
-
-array-write-states : tie.Need-array-write-states Inv-rules μ-rules Inv-walk μ-walk
-array-write-states c = search needs
 
 -- the state that was reached, and its rule's run
 reached : (c : tie.After-next Inv-rules μ-rules Inv-walk μ-walk) →
@@ -145,12 +118,6 @@ better-requires c κs = small c
 add-alive : tie.Need-add-alive Inv-rules μ-rules Inv-walk μ-walk
 add-alive c = let h = small (c .before) in let u = c .before .before .before .rules in let l : u .r < 7 = omega arith in omega arith
 
-add-r : tie.Need-add-r Inv-rules μ-rules Inv-walk μ-walk
-add-r c = search needs
-
-rules-less : tie.Need-rules-less Inv-rules μ-rules Inv-walk μ-walk
-rules-less c = omega arith
-
 rules-again : tie.Need-rules-again Inv-rules μ-rules Inv-walk μ-walk
 rules-again c =
     let u = c .before .before .before .rules in
@@ -173,12 +140,6 @@ rules-again c =
       subst (Sofar t at ((w .i - at + 1) * 7 + (u .r + 1))) (sym (c .better .ensures))
           (sofar-more t at g ok (u .best) q (u .r) (w .i - at + 1) l (omega arith) (omega arith) e (u .inv .6)),
     )
-
-add-i : tie.Need-add-i Inv-rules μ-rules Inv-walk μ-walk
-add-i c = search needs
-
-walk-less : tie.Need-walk-less Inv-rules μ-rules Inv-walk μ-walk
-walk-less c = omega arith
 
 walk-again : tie.Need-walk-again Inv-rules μ-rules Inv-walk μ-walk
 walk-again c =
@@ -227,25 +188,18 @@ walk-spec =
     μ-rules
     Inv-walk
     μ-walk
-    begin-requires
+    (λ c κs. search needs)
     walk-holds
-    shared-slice-read-kind
-    kind-requires
-    sub-n
-    add-n
+    (λ c. search needs) (λ c κs. search needs) (λ c. search needs) (λ c. search needs)
     rules-holds
-    mul-next
-    array-read-next
+    (λ c. search needs) (λ c. search needs)
     next-requires
-    mul-states
-    array-write-states
+    (λ c. search needs) (λ c. search needs)
     better-requires
     add-alive
-    add-r
-    rules-less
+    (λ c. search needs) (λ c. omega arith)
     rules-again
-    add-i
-    walk-less
+    (λ c. search needs) (λ c. omega arith)
     walk-again
     returns
     returns-2)

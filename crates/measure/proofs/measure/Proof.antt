@@ -4,11 +4,8 @@ use Rattle.measure.specs.Bridge.{whole-measured}
 use Rattle.measure.proofs.measure.Statement.{statement}
 use Rattle.measure.proofs.measure.Tie as tie
 
-expression-requires : tie.Need-expression-requires
-expression-requires c κs = search needs
-
 returns : tie.Need-returns
 returns c = whole-measured ((c .expression) .ensures)
 
 pub measure-spec : {M : Type 1} → statement M
-measure-spec = tie.close (tie.spec expression-requires returns)
+measure-spec = tie.close (tie.spec (λ c κs. search needs) returns)

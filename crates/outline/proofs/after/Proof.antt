@@ -7,32 +7,11 @@ use borrow.Author.Needs.{needs}
 use Rattle.outline.proofs.after.Statement.{statement}
 use Rattle.outline.proofs.after.Tie as tie
 
-kind-at-requires : tie.Need-kind-at-requires
-kind-at-requires c κs = search needs
-
-add-on : tie.Need-add-on
-add-on c = search needs
-
-on-requires : tie.Need-on-requires
-on-requires c κs = search needs
-
 returns : tie.Need-returns
 returns c = by-kind ((c .before .before .kind-at) .result) ((c .before .before .kind-at) .ensures) (ap (shape behind) ((c .before .if1) .taken)) (subst (Passes closing _ _) (sym ((c .on) .ensures)) closing-passes)
 
-add-on-2 : tie.Need-add-on-2
-add-on-2 c = search needs
-
-on-requires-2 : tie.Need-on-requires-2
-on-requires-2 c κs = search needs
-
 returns-2 : tie.Need-returns-2
 returns-2 c = by-kind ((c .before .before .before .kind-at) .result) ((c .before .before .before .kind-at) .ensures) (behind-and ((c .before .before .before .kind-at) .result) ((c .before .before .if1) .left) ((c .before .if2) .taken)) (subst (Passes going-on _ _) (sym ((c .on2) .ensures)) going-on-passes)
-
-add-on-3 : tie.Need-add-on-3
-add-on-3 c = search needs
-
-on-requires-3 : tie.Need-on-requires-3
-on-requires-3 c κs = search needs
 
 returns-3 : tie.Need-returns-3
 returns-3 c = by-kind ((c .before .before .before .kind-at) .result) ((c .before .before .before .kind-at) .ensures) (behind-last ((c .before .before .before .kind-at) .result) ((c .before .before .if1) .left) ((c .before .if2) .left)) (subst (Passes finish _ _) (sym ((c .on3) .ensures)) finish-passes)
@@ -41,13 +20,9 @@ pub after-spec : {M : Type 1} → statement M
 after-spec =
     tie.close
     (tie.spec
-    kind-at-requires
-    add-on
-    on-requires
+    (λ c κs. search needs) (λ c. search needs) (λ c κs. search needs)
     returns
-    add-on-2
-    on-requires-2
+    (λ c. search needs) (λ c κs. search needs)
     returns-2
-    add-on-3
-    on-requires-3
+    (λ c. search needs) (λ c κs. search needs)
     returns-3)

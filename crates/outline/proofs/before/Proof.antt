@@ -7,24 +7,12 @@ use borrow.Author.Needs.{needs}
 use Rattle.outline.proofs.before.Statement.{statement}
 use Rattle.outline.proofs.before.Tie as tie
 
-kind-at-requires : tie.Need-kind-at-requires
-kind-at-requires c κs = search needs
-
-add-on : tie.Need-add-on
-add-on c = search needs
-
-on-requires : tie.Need-on-requires
-on-requires c κs = search needs
-
 returns : tie.Need-returns
 returns c = by-kind ((c .before .before .kind-at) .result) ((c .before .before .kind-at) .ensures) (ap (shape front) ((c .before .if1) .taken)) (subst (Passes opening _ _) (sym ((c .on) .ensures)) opening-passes)
-
-assignment-requires : tie.Need-assignment-requires
-assignment-requires c κs = search needs
 
 returns-2 : tie.Need-returns-2
 returns-2 c = by-kind ((c .before .before .kind-at) .result) ((c .before .before .kind-at) .ensures) (before-assignment ((c .before .before .kind-at) .result) ((c .before .if1) .left)) ((c .assignment) .ensures)
 
 pub before-spec : {M : Type 1} → statement M
 before-spec =
-    tie.close (tie.spec kind-at-requires add-on on-requires returns assignment-requires returns-2)
+    tie.close (tie.spec (λ c κs. search needs) (λ c. search needs) (λ c κs. search needs) returns (λ c κs. search needs) returns-2)

@@ -27,9 +27,6 @@ abbrev μ-loop : tie.MeasureT-loop
 loop-holds : tie.Need-loop-holds Inv-loop μ-loop
 loop-holds c = (refl, (λ ts g h. upto-begin h), λ j h. refl)
 
-step-requires : tie.Need-step-requires Inv-loop μ-loop
-step-requires c κs = search needs
-
 same-length : tie.Need-same-length Inv-loop μ-loop
 same-length c = (c .before .before .before .before .loop) .inv .0
 
@@ -40,9 +37,6 @@ returns c =
       rest = λ e. contra e;
       done = λ ts g h. contra (sym (not-true _ ((c .if1) .taken)) ∙ step-ok ((c .before .before .before .before .loop) .inv .1 ts g h) ((c .before .before .before .loop-test) .taken) ((c .before .before .step) .ensures));
     }
-
-put-requires : tie.Need-put-requires Inv-loop μ-loop
-put-requires c κs = search needs
 
 same-length-2 : tie.Need-same-length-2 Inv-loop μ-loop
 same-length-2 c = (c .before .before .before .before .put) .ensures .long ∙ (c .before .before .before .before .before .before .before .before .before .before .loop) .inv .0
@@ -80,10 +74,10 @@ outline-spec =
     Inv-loop
     μ-loop
     loop-holds
-    step-requires
+    (λ c κs. search needs)
     same-length
     returns
-    put-requires
+    (λ c κs. search needs)
     same-length-2
     returns-2
     loop-less

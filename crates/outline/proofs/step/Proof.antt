@@ -7,26 +7,14 @@ use borrow.Author.Needs.{needs}
 use Rattle.outline.proofs.step.Statement.{statement}
 use Rattle.outline.proofs.step.Tie as tie
 
-stuck-requires : tie.Need-stuck-requires
-stuck-requires c κs = search needs
-
 returns : tie.Need-returns
 returns c = record { onward = λ e. contra (sym ((c .stuck) .ensures) ∙ e); done = λ s w r n rs e f x. too-far f ((c .before .if1) .taken) }
-
-line-requires : tie.Need-line-requires
-line-requires c κs = search needs
 
 returns-2 : tie.Need-returns-2
 returns-2 c = same-mode (ap mode-of ((c .before .if2) .taken)) ((c .line) .ensures)
 
-before-requires : tie.Need-before-requires
-before-requires c κs = search needs
-
 returns-3 : tie.Need-returns-3
 returns-3 c = same-mode (ap mode-of ((c .before .if3) .taken)) ((c .before2) .ensures)
-
-after-requires : tie.Need-after-requires
-after-requires c κs = search needs
 
 returns-4 : tie.Need-returns-4
 returns-4 c = same-mode (behind-mode ((c .before .before .before .before .before .before .before .before) .args .mode) ((c .before .before .if2) .left) ((c .before .if3) .left)) ((c .after) .ensures)
@@ -35,11 +23,11 @@ pub step-spec : {M : Type 1} → statement M
 step-spec =
     tie.close
     (tie.spec
-    stuck-requires
+    (λ c κs. search needs)
     returns
-    line-requires
+    (λ c κs. search needs)
     returns-2
-    before-requires
+    (λ c κs. search needs)
     returns-3
-    after-requires
+    (λ c κs. search needs)
     returns-4)

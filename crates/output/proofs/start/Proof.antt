@@ -6,17 +6,8 @@ use borrow.Author.Needs.{needs}
 use Rattle.output.proofs.start.Statement.{statement}
 use Rattle.output.proofs.start.Tie as tie
 
-slice-aggregate-word : tie.Need-slice-aggregate-word
-slice-aggregate-word c = search needs
-
-word-requires : tie.Need-word-requires
-word-requires c κs = search needs
-
-same-length : tie.Need-same-length
-same-length c = search needs
-
 returns : tie.Need-returns
 returns c = record { kept = refl; first = refl; put = put (c .before .before .word .ensures) (let r = c .before .before .before .before .before .before .pre in omega arith) }
 
 pub start-spec : {M : Type 1} → statement M
-start-spec = tie.close (tie.spec slice-aggregate-word word-requires same-length returns)
+start-spec = tie.close (tie.spec (λ c. search needs) (λ c κs. search needs) (λ c. search needs) returns)

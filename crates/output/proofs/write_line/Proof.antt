@@ -6,30 +6,6 @@ use borrow.Author.Needs.{needs}
 use Rattle.output.proofs.write_line.Statement.{statement}
 use Rattle.output.proofs.write_line.Tie as tie
 
-slice-aggregate-answer : tie.Need-slice-aggregate-answer
-slice-aggregate-answer c = search needs
-
-answer-requires : tie.Need-answer-requires
-answer-requires c κs = search needs
-
-number-requires : tie.Need-number-requires
-number-requires c κs = search needs
-
-byte-requires : tie.Need-byte-requires
-byte-requires c κs = search needs
-
-slice-aggregate-first : tie.Need-slice-aggregate-first
-slice-aggregate-first c = search needs
-
-first-requires : tie.Need-first-requires
-first-requires c κs = search needs
-
-byte-requires-2 : tie.Need-byte-requires-2
-byte-requires-2 c κs = search needs
-
-same-length : tie.Need-same-length
-same-length c = search needs
-
 returns : tie.Need-returns
 returns c =
     let a = c .before .before .before .before .before .before .before .before .before .before .before .before .before .before .before .before .before .before .answer in
@@ -39,12 +15,6 @@ pub write-line-spec : {M : Type 1} → statement M
 write-line-spec =
     tie.close
     (tie.spec
-    slice-aggregate-answer
-    answer-requires
-    number-requires
-    byte-requires
-    slice-aggregate-first
-    first-requires
-    byte-requires-2
-    same-length
+    (λ c. search needs) (λ c κs. search needs) (λ c κs. search needs) (λ c κs. search needs) (λ c. search needs) (λ c κs. search needs)
+    (λ c κs. search needs) (λ c. search needs)
     returns)

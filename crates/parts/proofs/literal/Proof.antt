@@ -11,12 +11,6 @@ use Rattle.parts.proofs.Signed.{literal-fits}
 use Rattle.parts.proofs.literal.Statement.{statement}
 use Rattle.parts.proofs.literal.Tie as tie
 
-mul-result : tie.Need-mul-result
-mul-result c = search needs
-
-shared-slice-read-result : tie.Need-shared-slice-read-result
-shared-slice-read-result c = search needs
-
 cast-result : tie.Need-cast-result
 cast-result c = record { sfits = omega (arith, c .shared-slice-known .given (c .before .before .args .p)) }
 
@@ -39,4 +33,4 @@ returns-2 c = sym (ap literalOf (List·getD-eq-default (c .before .args .loads .
 pub literal-spec : {M : Type 1} → statement M
 literal-spec =
     tie.close
-    (tie.spec mul-result shared-slice-read-result cast-result sub-result returns returns-2)
+    (tie.spec (λ c. search needs) (λ c. search needs) cast-result sub-result returns returns-2)

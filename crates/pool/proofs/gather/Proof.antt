@@ -21,15 +21,6 @@ loop-holds c =
     let a = c .before .before .before .before .args in
     (omega arith, λ h. h, refl, refl, subst (λ (n : ℕ). Moved (a .text .now) (a .codes .now) (a .loads .now) (a .loads .now) (a .bytes .now) (a .bytes .now) (a .from) n (a .o) (a .o)) {x = 0} {y = a .from - a .from} (omega arith) (moved-none _ _ _ _ _ _))
 
-move-text-requires : tie.Need-move-text-requires Inv-loop μ-loop
-move-text-requires c κs = search needs
-
-add-i : tie.Need-add-i Inv-loop μ-loop
-add-i c = search needs
-
-loop-less : tie.Need-loop-less Inv-loop μ-loop
-loop-less c = search needs
-
 loop-again : tie.Need-loop-again Inv-loop μ-loop
 loop-again c =
     let l = c .before .before .before .before .before .before .before .before .loop in
@@ -54,9 +45,7 @@ gather-spec =
     Inv-loop
     μ-loop
     loop-holds
-    move-text-requires
-    add-i
-    loop-less
+    (λ c κs. search needs) (λ c. search needs) (λ c. search needs)
     loop-again
     same-length
     same-length-2

@@ -13,25 +13,10 @@ use Rattle.pool.proofs.move_text.Tie as tie
 returns : tie.Need-returns
 returns c = record { room = λ h f. absurd (omega arith); ends = λ h f. absurd (omega arith); loads = λ h f. absurd (omega arith); bytes = λ h f. absurd (omega arith) }
 
-byte-requires : tie.Need-byte-requires
-byte-requires c κs = search needs
-
-has-text-requires : tie.Need-has-text-requires
-has-text-requires c κs = search needs
-
 returns-2 : tie.Need-returns-2
 returns-2 c =
     let a = c .before .before .before .before .before .before .before .before .args in
     untexted (a .text .now) (a .loads .now) (a .bytes .now) (a .i) (getD (a .codes .now) (a .i) 0) (a .o) (ap texted (sym (c .before .before .byte .ensures)) ∙ sym (c .before .has-text .ensures) ∙ not-true _ (c .if2 .taken))
-
-number-requires : tie.Need-number-requires
-number-requires c κs = search needs
-
-room-requires : tie.Need-room-requires
-room-requires c κs = search needs
-
-same-length : tie.Need-same-length
-same-length c = search needs
 
 returns-3 : tie.Need-returns-3
 returns-3 c =
@@ -50,12 +35,6 @@ add-loads c = let z = c .before .room .ensures .fits (not-false _ (c .if3 .left)
 cast-loads : tie.Need-cast-loads
 cast-loads c = let z = c .before .room .ensures .fits (not-false _ (c .if3 .left)) in omega arith
 
-mul-loads-2 : tie.Need-mul-loads-2
-mul-loads-2 c = search needs
-
-slice-write-loads : tie.Need-slice-write-loads
-slice-write-loads c = search needs
-
 copy-requires : tie.Need-copy-requires
 copy-requires c κs =
     let z = c .before .before .room .ensures .fits (not-false _ (c .before .if3 .left)) in
@@ -65,12 +44,6 @@ copy-requires c κs =
 
 add-result : tie.Need-add-result
 add-result c = let z = c .before .before .before .before .before .room .ensures .fits (not-false _ (c .before .before .before .before .if3 .left)) in omega arith
-
-same-length-2 : tie.Need-same-length-2
-same-length-2 c = search needs
-
-same-length-3 : tie.Need-same-length-3
-same-length-3 c = search needs
 
 returns-4 : tie.Need-returns-4
 returns-4 c =
@@ -83,20 +56,15 @@ move-text-spec =
     tie.close
     (tie.spec
     returns
-    byte-requires
-    has-text-requires
+    (λ c κs. search needs) (λ c κs. search needs)
     returns-2
-    number-requires
-    room-requires
-    same-length
+    (λ c κs. search needs) (λ c κs. search needs) (λ c. search needs)
     returns-3
     mul-loads
     add-loads
     cast-loads
-    mul-loads-2
-    slice-write-loads
+    (λ c. search needs) (λ c. search needs)
     copy-requires
     add-result
-    same-length-2
-    same-length-3
+    (λ c. search needs) (λ c. search needs)
     returns-4)

@@ -8,20 +8,11 @@ use Rattle.pool.proofs.room.Tie as tie
 returns : tie.Need-returns
 returns c = record { fits = λ e. contra e; true-if = λ f. absurd (omega arith) }
 
-sub-if2 : tie.Need-sub-if2
-sub-if2 c = search needs
-
 returns-2 : tie.Need-returns-2
 returns-2 c = record { fits = λ e. contra e; true-if = λ f. absurd (omega arith) }
-
-add-if3 : tie.Need-add-if3
-add-if3 c = search needs
 
 returns-3 : tie.Need-returns-3
 returns-3 c = record { fits = λ e. contra e; true-if = λ f. absurd (omega arith) }
 
-returns-4 : tie.Need-returns-4
-returns-4 c = search needs
-
 pub room-spec : {M : Type 1} → statement M
-room-spec = tie.close (tie.spec returns sub-if2 returns-2 add-if3 returns-3 returns-4)
+room-spec = tie.close (tie.spec returns (λ c. search needs) returns-2 (λ c. search needs) returns-3 (λ c. search needs))

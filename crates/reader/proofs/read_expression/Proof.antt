@@ -10,12 +10,6 @@ use borrow.Author.Needs.{needs}
 use Rattle.reader.proofs.read_expression.Statement.{statement}
 use Rattle.reader.proofs.read_expression.Tie as tie
 
-expression-requires : tie.Need-expression-requires
-expression-requires c κs = search needs
-
-refused-requires : tie.Need-refused-requires
-refused-requires c κs = search needs
-
 returns : tie.Need-returns
 returns c =
     record {
@@ -23,12 +17,6 @@ returns c =
       beside = λ e. contra (sym ((c .refused) .ensures) ∙ e);
       ok = λ b w r e st y end br cl sh room. contra (sym (not-true _ ((c .before .if1) .taken)) ∙ rows-read ((c .before .before .before .expression) .ensures) (length-replicate {A = ℕ} 4096 0) st y end br cl sh room .ok);
     }
-
-room-requires : tie.Need-room-requires
-room-requires c κs = search needs
-
-refused-requires-2 : tie.Need-refused-requires-2
-refused-requires-2 c κs = search needs
 
 returns-2 : tie.Need-returns-2
 returns-2 c =
@@ -42,12 +30,6 @@ returns-2 c =
           contra (sym (not-true _ ((c .before .if2) .taken)) ∙ (c .before .before .room) .ensures .1 (omega arith) (omega arith));
     }
 
-room-requires-2 : tie.Need-room-requires-2
-room-requires-2 c κs = search needs
-
-refused-requires-3 : tie.Need-refused-requires-3
-refused-requires-3 c κs = search needs
-
 returns-3 : tie.Need-returns-3
 returns-3 c =
     record {
@@ -60,12 +42,6 @@ returns-3 c =
           contra (sym (not-true _ ((c .before .if3) .taken)) ∙ (c .before .before .room2) .ensures .1 (omega arith) (omega arith));
     }
 
-room-requires-3 : tie.Need-room-requires-3
-room-requires-3 c κs = search needs
-
-refused-requires-4 : tie.Need-refused-requires-4
-refused-requires-4 c κs = search needs
-
 returns-4 : tie.Need-returns-4
 returns-4 c =
     record {
@@ -77,12 +53,6 @@ returns-4 c =
           let k = room .sizes in
           contra (sym (not-true _ ((c .before .if4) .taken)) ∙ (c .before .before .room3) .ensures .1 (omega arith) (omega arith));
     }
-
-room-requires-4 : tie.Need-room-requires-4
-room-requires-4 c κs = search needs
-
-refused-requires-5 : tie.Need-refused-requires-5
-refused-requires-5 c κs = search needs
 
 returns-5 : tie.Need-returns-5
 returns-5 c =
@@ -111,18 +81,6 @@ copy-requires-3 c κs = let z = (c .before .before .before .before .before .befo
 add-t17 : tie.Need-add-t17
 add-t17 c = let z = (c .before .before .before .before .before .before .before .before .before .before .before .before .before .before .before .before .before .before .before .before .before .before .before .before .before .before .before .room) .ensures .0 (not-false _ ((c .before .before .before .before .before .before .before .before .before .before .before .before .before .before .before .before .before .before .before .before .before .before .before .before .before .before .if2) .left)) in omega (arith, z .1, (c .before .before .before .before .before .before .before .before .before .before .before .before .before .before .before .before .before .before .before .before .before .before .before .before .before .before .before .before .before .before .before .before .before .before .before .before .before .before .before .before) .good .1 .1 .1 .1 .1 .1 .0 .0)
 
-same-length : tie.Need-same-length
-same-length c = search needs
-
-same-length-2 : tie.Need-same-length-2
-same-length-2 c = search needs
-
-same-length-3 : tie.Need-same-length-3
-same-length-3 c = search needs
-
-same-length-4 : tie.Need-same-length-4
-same-length-4 c = search needs
-
 returns-6 : tie.Need-returns-6
 returns-6 c =
     record {
@@ -141,28 +99,20 @@ pub read-expression-spec : {M : Type 1} → statement M
 read-expression-spec =
     tie.close
     (tie.spec
-    expression-requires
-    refused-requires
+    (λ c κs. search needs) (λ c κs. search needs)
     returns
-    room-requires
-    refused-requires-2
+    (λ c κs. search needs) (λ c κs. search needs)
     returns-2
-    room-requires-2
-    refused-requires-3
+    (λ c κs. search needs) (λ c κs. search needs)
     returns-3
-    room-requires-3
-    refused-requires-4
+    (λ c κs. search needs) (λ c κs. search needs)
     returns-4
-    room-requires-4
-    refused-requires-5
+    (λ c κs. search needs) (λ c κs. search needs)
     returns-5
     copy-kinds-requires
     copy-requires
     copy-requires-2
     copy-requires-3
     add-t17
-    same-length
-    same-length-2
-    same-length-3
-    same-length-4
+    (λ c. search needs) (λ c. search needs) (λ c. search needs) (λ c. search needs)
     returns-6)

@@ -13,96 +13,6 @@ use Rattle.resolution.proofs.apply.Tie as tie
 chosen : (x y z : ℕ) {m n : ℕ} → m ≡ n → resolveOf (x ∷ y ∷ z ∷ []) (listOf m) ≡ resolveOf (x ∷ y ∷ z ∷ []) (listOf n)
 chosen x y z e = ap (λ (k : ℕ). resolveOf (x ∷ y ∷ z ∷ []) (listOf k)) e
 
-slice-aggregate-resolve : tie.Need-slice-aggregate-resolve
-slice-aggregate-resolve c = search needs
-
-resolve-requires : tie.Need-resolve-requires
-resolve-requires c κs = search needs
-
-slice-aggregate-resolve-2 : tie.Need-slice-aggregate-resolve-2
-slice-aggregate-resolve-2 c = search needs
-
-resolve-requires-2 : tie.Need-resolve-requires-2
-resolve-requires-2 c κs = search needs
-
-slice-aggregate-resolve-3 : tie.Need-slice-aggregate-resolve-3
-slice-aggregate-resolve-3 c = search needs
-
-resolve-requires-3 : tie.Need-resolve-requires-3
-resolve-requires-3 c κs = search needs
-
-slice-aggregate-resolve-4 : tie.Need-slice-aggregate-resolve-4
-slice-aggregate-resolve-4 c = search needs
-
-resolve-requires-4 : tie.Need-resolve-requires-4
-resolve-requires-4 c κs = search needs
-
-slice-aggregate-resolve-5 : tie.Need-slice-aggregate-resolve-5
-slice-aggregate-resolve-5 c = search needs
-
-resolve-requires-5 : tie.Need-resolve-requires-5
-resolve-requires-5 c κs = search needs
-
-slice-aggregate-resolve-6 : tie.Need-slice-aggregate-resolve-6
-slice-aggregate-resolve-6 c = search needs
-
-resolve-requires-6 : tie.Need-resolve-requires-6
-resolve-requires-6 c κs = search needs
-
-slice-aggregate-resolve-7 : tie.Need-slice-aggregate-resolve-7
-slice-aggregate-resolve-7 c = search needs
-
-resolve-requires-7 : tie.Need-resolve-requires-7
-resolve-requires-7 c κs = search needs
-
-slice-aggregate-resolve-8 : tie.Need-slice-aggregate-resolve-8
-slice-aggregate-resolve-8 c = search needs
-
-resolve-requires-8 : tie.Need-resolve-requires-8
-resolve-requires-8 c κs = search needs
-
-slice-aggregate-resolve-9 : tie.Need-slice-aggregate-resolve-9
-slice-aggregate-resolve-9 c = search needs
-
-resolve-requires-9 : tie.Need-resolve-requires-9
-resolve-requires-9 c κs = search needs
-
-slice-aggregate-resolve-10 : tie.Need-slice-aggregate-resolve-10
-slice-aggregate-resolve-10 c = search needs
-
-resolve-requires-10 : tie.Need-resolve-requires-10
-resolve-requires-10 c κs = search needs
-
-slice-aggregate-resolve-11 : tie.Need-slice-aggregate-resolve-11
-slice-aggregate-resolve-11 c = search needs
-
-resolve-requires-11 : tie.Need-resolve-requires-11
-resolve-requires-11 c κs = search needs
-
-slice-aggregate-resolve-12 : tie.Need-slice-aggregate-resolve-12
-slice-aggregate-resolve-12 c = search needs
-
-resolve-requires-12 : tie.Need-resolve-requires-12
-resolve-requires-12 c κs = search needs
-
-slice-aggregate-resolve-13 : tie.Need-slice-aggregate-resolve-13
-slice-aggregate-resolve-13 c = search needs
-
-resolve-requires-13 : tie.Need-resolve-requires-13
-resolve-requires-13 c κs = search needs
-
-slice-aggregate-resolve-14 : tie.Need-slice-aggregate-resolve-14
-slice-aggregate-resolve-14 c = search needs
-
-resolve-requires-14 : tie.Need-resolve-requires-14
-resolve-requires-14 c κs = search needs
-
-slice-aggregate-resolve-15 : tie.Need-slice-aggregate-resolve-15
-slice-aggregate-resolve-15 c = search needs
-
-resolve-requires-15 : tie.Need-resolve-requires-15
-resolve-requires-15 c κs = search needs
-
 returns : tie.Need-returns
 returns c = let a = c .before .before .before .args in c .resolve .ensures ∙ chosen (a .x) (a .y) (a .z) (sym (c .before .before .match .keys1))
 
@@ -152,4 +62,4 @@ returns-16 : tie.Need-returns-16
 returns-16 c = simp (ne-eqb _ 1 (c .match .rest .0 .0 .0 .0 .0 .0 .0 .0 .0 .0 .0 .0 .0 .0 .1), ne-eqb _ 2 (c .match .rest .0 .0 .0 .0 .0 .0 .0 .0 .0 .0 .0 .0 .0 .1), ne-eqb _ 3 (c .match .rest .0 .0 .0 .0 .0 .0 .0 .0 .0 .0 .0 .0 .1), ne-eqb _ 4 (c .match .rest .0 .0 .0 .0 .0 .0 .0 .0 .0 .0 .0 .1), ne-eqb _ 5 (c .match .rest .0 .0 .0 .0 .0 .0 .0 .0 .0 .0 .1), ne-eqb _ 6 (c .match .rest .0 .0 .0 .0 .0 .0 .0 .0 .0 .1), ne-eqb _ 7 (c .match .rest .0 .0 .0 .0 .0 .0 .0 .0 .1), ne-eqb _ 8 (c .match .rest .0 .0 .0 .0 .0 .0 .0 .1), ne-eqb _ 9 (c .match .rest .0 .0 .0 .0 .0 .0 .1), ne-eqb _ 10 (c .match .rest .0 .0 .0 .0 .0 .1), ne-eqb _ 11 (c .match .rest .0 .0 .0 .0 .1), ne-eqb _ 12 (c .match .rest .0 .0 .0 .1), ne-eqb _ 13 (c .match .rest .0 .0 .1), ne-eqb _ 14 (c .match .rest .0 .1), ne-eqb _ 15 (c .match .rest .1))
 
 pub apply-spec : {M : Type 1} → statement M
-apply-spec = tie.close (tie.spec slice-aggregate-resolve resolve-requires slice-aggregate-resolve-2 resolve-requires-2 slice-aggregate-resolve-3 resolve-requires-3 slice-aggregate-resolve-4 resolve-requires-4 slice-aggregate-resolve-5 resolve-requires-5 slice-aggregate-resolve-6 resolve-requires-6 slice-aggregate-resolve-7 resolve-requires-7 slice-aggregate-resolve-8 resolve-requires-8 slice-aggregate-resolve-9 resolve-requires-9 slice-aggregate-resolve-10 resolve-requires-10 slice-aggregate-resolve-11 resolve-requires-11 slice-aggregate-resolve-12 resolve-requires-12 slice-aggregate-resolve-13 resolve-requires-13 slice-aggregate-resolve-14 resolve-requires-14 slice-aggregate-resolve-15 resolve-requires-15 returns returns-2 returns-3 returns-4 returns-5 returns-6 returns-7 returns-8 returns-9 returns-10 returns-11 returns-12 returns-13 returns-14 returns-15 returns-16)
+apply-spec = tie.close (tie.spec (λ c. search needs) (λ c κs. search needs) (λ c. search needs) (λ c κs. search needs) (λ c. search needs) (λ c κs. search needs) (λ c. search needs) (λ c κs. search needs) (λ c. search needs) (λ c κs. search needs) (λ c. search needs) (λ c κs. search needs) (λ c. search needs) (λ c κs. search needs) (λ c. search needs) (λ c κs. search needs) (λ c. search needs) (λ c κs. search needs) (λ c. search needs) (λ c κs. search needs) (λ c. search needs) (λ c κs. search needs) (λ c. search needs) (λ c κs. search needs) (λ c. search needs) (λ c κs. search needs) (λ c. search needs) (λ c κs. search needs) (λ c. search needs) (λ c κs. search needs) returns returns-2 returns-3 returns-4 returns-5 returns-6 returns-7 returns-8 returns-9 returns-10 returns-11 returns-12 returns-13 returns-14 returns-15 returns-16)

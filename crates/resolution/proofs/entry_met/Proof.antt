@@ -8,39 +8,15 @@ use Rattle.resolution.proofs.Steps.{first-not, second-not, third-tells}
 use Rattle.resolution.proofs.entry_met.Statement.{statement}
 use Rattle.resolution.proofs.entry_met.Tie as tie
 
-shared-slice-read-meets : tie.Need-shared-slice-read-meets
-shared-slice-read-meets c = search needs
-
-meets-requires : tie.Need-meets-requires
-meets-requires c κs = search needs
-
 returns : tie.Need-returns
 returns c =
     let a = c .before .before .before .before .args in
     first-not (a .promoted) (a .x) (a .y) (a .z) (getD (a .list .now) (a .i) 0) (getD (a .list .now) (a .i + 1) 0) (getD (a .list .now) (a .i + 2) 0) (sym (c .before .meets .ensures) ∙ not-true _ (c .if1 .taken))
 
-add-meets : tie.Need-add-meets
-add-meets c = search needs
-
-shared-slice-read-meets-2 : tie.Need-shared-slice-read-meets-2
-shared-slice-read-meets-2 c = search needs
-
-meets-requires-2 : tie.Need-meets-requires-2
-meets-requires-2 c κs = search needs
-
 returns-2 : tie.Need-returns-2
 returns-2 c =
     let a = c .before .before .before .before .before .before .before .args in
     second-not (a .promoted) (a .x) (a .y) (a .z) (getD (a .list .now) (a .i) 0) (getD (a .list .now) (a .i + 1) 0) (getD (a .list .now) (a .i + 2) 0) (sym (c .before .before .before .before .meets .ensures) ∙ not-false _ (c .before .before .before .if1 .left)) (sym (c .before .meets2 .ensures) ∙ not-true _ (c .if2 .taken))
-
-add-meets-2 : tie.Need-add-meets-2
-add-meets-2 c = search needs
-
-shared-slice-read-meets-3 : tie.Need-shared-slice-read-meets-3
-shared-slice-read-meets-3 c = search needs
-
-meets-requires-3 : tie.Need-meets-requires-3
-meets-requires-3 c κs = search needs
 
 returns-3 : tie.Need-returns-3
 returns-3 c =
@@ -48,4 +24,4 @@ returns-3 c =
     c .meets3 .ensures ∙ third-tells (a .promoted) (a .x) (a .y) (a .z) (getD (a .list .now) (a .i) 0) (getD (a .list .now) (a .i + 1) 0) (getD (a .list .now) (a .i + 2) 0) (sym (c .before .before .before .before .before .before .meets .ensures) ∙ not-false _ (c .before .before .before .before .before .if1 .left)) (sym (c .before .before .before .meets2 .ensures) ∙ not-false _ (c .before .before .if2 .left))
 
 pub entry-met-spec : {M : Type 1} → statement M
-entry-met-spec = tie.close (tie.spec shared-slice-read-meets meets-requires returns add-meets shared-slice-read-meets-2 meets-requires-2 returns-2 add-meets-2 shared-slice-read-meets-3 meets-requires-3 returns-3)
+entry-met-spec = tie.close (tie.spec (λ c. search needs) (λ c κs. search needs) returns (λ c. search needs) (λ c. search needs) (λ c κs. search needs) returns-2 (λ c. search needs) (λ c. search needs) (λ c κs. search needs) returns-3)

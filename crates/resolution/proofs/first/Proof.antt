@@ -20,29 +20,11 @@ abbrev μ-loop : tie.MeasureT-loop
 loop-holds : tie.Need-loop-holds Inv-loop μ-loop
 loop-holds c = (search needs, refl)
 
-mul-i : tie.Need-mul-i Inv-loop μ-loop
-mul-i c = search needs
-
-entry-met-requires : tie.Need-entry-met-requires Inv-loop μ-loop
-entry-met-requires c κs = search needs
-
-add-result : tie.Need-add-result Inv-loop μ-loop
-add-result c = search needs
-
-shared-slice-read-result : tie.Need-shared-slice-read-result Inv-loop μ-loop
-shared-slice-read-result c = search needs
-
 returns : tie.Need-returns Inv-loop μ-loop
 returns c =
     let a = c .before .before .before .before .before .before .args in
     let l = c .before .before .before .before .loop in
     sym (l .inv .1 ∙ entry-here (a .promoted) (a .x ∷ a .y ∷ a .z ∷ []) (a .list .now) (l .k * 4) (omega arith) (sym (c .before .before .entry-met .ensures) ∙ c .before .if1 .taken))
-
-add-k : tie.Need-add-k Inv-loop μ-loop
-add-k c = search needs
-
-loop-less : tie.Need-loop-less Inv-loop μ-loop
-loop-less c = search needs
 
 loop-again : tie.Need-loop-again Inv-loop μ-loop
 loop-again c =
@@ -58,4 +40,4 @@ returns-2 c =
     sym (l .inv .1 ∙ entry-none (a .promoted) (a .x ∷ a .y ∷ a .z ∷ []) (a .list .now) (l .k * 4) (omega arith))
 
 pub first-spec : {M : Type 1} → statement M
-first-spec = tie.close (tie.spec Inv-loop μ-loop loop-holds mul-i entry-met-requires add-result shared-slice-read-result returns add-k loop-less loop-again returns-2)
+first-spec = tie.close (tie.spec Inv-loop μ-loop loop-holds (λ c. search needs) (λ c κs. search needs) (λ c. search needs) (λ c. search needs) returns (λ c. search needs) (λ c. search needs) loop-again returns-2)

@@ -8,9 +8,6 @@ use Rattle.resolution.proofs.meets.Tie as tie
 returns : tie.Need-returns
 returns c = let a = c .before .args in meets-same (a .promoted) (a .x) (a .u) (c .if1 .taken)
 
-promotes-requires : tie.Need-promotes-requires
-promotes-requires c κs = search needs
-
 returns-2 : tie.Need-returns-2
 returns-2 c =
     let a = c .before .before .before .args in
@@ -20,4 +17,4 @@ returns-3 : tie.Need-returns-3
 returns-3 c = let a = c .before .before .args in meets-not (a .promoted) (a .x) (a .u) (c .before .if1 .left) (c .if2 .left)
 
 pub meets-spec : {M : Type 1} → statement M
-meets-spec = tie.close (tie.spec returns promotes-requires returns-2 returns-3)
+meets-spec = tie.close (tie.spec returns (λ c κs. search needs) returns-2 returns-3)

@@ -7,9 +7,6 @@ use Rattle.resolution.specs.Resolution.{promotesOf}
 use Rattle.resolution.proofs.promotes.Statement.{statement}
 use Rattle.resolution.proofs.promotes.Tie as tie
 
-is-set-requires : tie.Need-is-set-requires
-is-set-requires c κs = search needs
-
 returns : tie.Need-returns
 returns c = ap (λ (x : ℕ). promotesOf x (c .before .args .u)) (sym (c .match .keys1))
 
@@ -23,4 +20,4 @@ returns-4 : tie.Need-returns-4
 returns-4 c = simp (ne-eqb _ 73 (c .match .rest .0 .0 .1), ne-eqb _ 105 (c .match .rest .0 .1), ne-eqb _ 97 (c .match .rest .1))
 
 pub promotes-spec : {M : Type 1} → statement M
-promotes-spec = tie.close (tie.spec is-set-requires returns returns-2 returns-3 returns-4)
+promotes-spec = tie.close (tie.spec (λ c κs. search needs) returns returns-2 returns-3 returns-4)

@@ -4,17 +4,11 @@ use Rattle.resolution.proofs.Steps.{exact-found, exact-missing}
 use Rattle.resolution.proofs.resolve.Statement.{statement}
 use Rattle.resolution.proofs.resolve.Tie as tie
 
-first-requires : tie.Need-first-requires
-first-requires c κs = search needs
-
 returns : tie.Need-returns
 returns c = exact-found _ _ _ (c .before .first .ensures) (c .if1 .taken)
-
-first-requires-2 : tie.Need-first-requires-2
-first-requires-2 c κs = search needs
 
 returns-2 : tie.Need-returns-2
 returns-2 c = exact-missing _ _ _ _ (c .before .before .first .ensures) (c .before .if1 .left) (c .first2 .ensures)
 
 pub resolve-spec : {M : Type 1} → statement M
-resolve-spec = tie.close (tie.spec first-requires returns first-requires-2 returns-2)
+resolve-spec = tie.close (tie.spec (λ c κs. search needs) returns (λ c κs. search needs) returns-2)

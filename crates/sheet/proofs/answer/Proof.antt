@@ -14,26 +14,8 @@ Inv-loop chunk kept₀ out₀ s₀ kept out s = (length kept ≡ length kept₀)
 abbrev μ-loop : tie.MeasureT-loop
 μ-loop chunk kept₀ out₀ s₀ kept out s = length chunk - s .at
 
-loop-holds : tie.Need-loop-holds Inv-loop μ-loop
-loop-holds c = search needs
-
-step-requires : tie.Need-step-requires Inv-loop μ-loop
-step-requires c κs = search needs
-
 loop-less : tie.Need-loop-less Inv-loop μ-loop
 loop-less c = let on = c .before .before .before .before .step .ensures (search needs) in omega arith
-
-loop-again : tie.Need-loop-again Inv-loop μ-loop
-loop-again c = search needs
-
-same-length : tie.Need-same-length Inv-loop μ-loop
-same-length c = search needs
-
-same-length-2 : tie.Need-same-length-2 Inv-loop μ-loop
-same-length-2 c = search needs
-
-returns : tie.Need-returns Inv-loop μ-loop
-returns c = search needs
 
 pub answer-spec : {M : Type 1} → statement M
 answer-spec =
@@ -41,10 +23,6 @@ answer-spec =
     (tie.spec
     Inv-loop
     μ-loop
-    loop-holds
-    step-requires
+    (λ c. search needs) (λ c κs. search needs)
     loop-less
-    loop-again
-    same-length
-    same-length-2
-    returns)
+    (λ c. search needs) (λ c. search needs) (λ c. search needs) (λ c. search needs))

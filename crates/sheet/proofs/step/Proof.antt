@@ -6,18 +6,6 @@ use borrow.Author.Needs.{needs}
 use Rattle.sheet.proofs.step.Statement.{statement}
 use Rattle.sheet.proofs.step.Tie as tie
 
-room-requires : tie.Need-room-requires
-room-requires c κs = search needs
-
-step-requires : tie.Need-step-requires
-step-requires c κs = search needs
-
-same-length : tie.Need-same-length
-same-length c = search needs
-
-same-length-2 : tie.Need-same-length-2
-same-length-2 c = search needs
-
 returns : tie.Need-returns
 returns c h =
     let r = c .before .before .before .before .before .before .before .room in
@@ -27,4 +15,4 @@ returns c h =
     omega arith
 
 pub step-spec : {M : Type 1} → statement M
-step-spec = tie.close (tie.spec room-requires step-requires same-length same-length-2 returns)
+step-spec = tie.close (tie.spec (λ c κs. search needs) (λ c κs. search needs) (λ c. search needs) (λ c. search needs) returns)

@@ -12,24 +12,6 @@ use Rattle.stages.proofs.first_bad.Lts as lts
 use Rattle.grammar.proofs.read.Reads as read-reads
 use Rattle.stages.proofs.place_of.Reads as place-of-reads
 
-slice-aggregate-read : tie.Need-slice-aggregate-read
-slice-aggregate-read c = search needs
-
-read-requires : tie.Need-read-requires
-read-requires c κs = search needs
-
-enum-told : tie.Need-enum-told
-enum-told c = search needs
-
-enum-known-i : tie.Need-enum-known-i
-enum-known-i c = search needs
-
-place-of-requires : tie.Need-place-of-requires
-place-of-requires c κs = search needs
-
-enum-told-2 : tie.Need-enum-told-2
-enum-told-2 c = search needs
-
 returns : tie.Need-returns
 returns c = subst (Verdict Process (c .before .before .before .before .before .before .before .before .args .kinds .now)) (c .enum-told .given .1) (c .before .before .before .read .ensures .verdict) .1
 
@@ -43,12 +25,7 @@ pub first-bad-spec : {M : Type 1} → statement M
 first-bad-spec =
     tie.close
     (tie.spec
-    slice-aggregate-read
-    read-requires
-    enum-told
-    enum-known-i
-    place-of-requires
-    enum-told-2
+    (λ c. search needs) (λ c κs. search needs) (λ c. search needs) (λ c. search needs) (λ c κs. search needs) (λ c. search needs)
     returns
     returns-2
     returns-3)

@@ -14,26 +14,11 @@ use Rattle.stages.proofs.first_bad.Reads as first-bad-reads
 use Rattle.stages.proofs.within_limits.Reads as within-limits-reads
 use Rattle.token_tests.proofs.left_out.Reads as left-out-reads
 
-first-bad-requires : tie.Need-first-bad-requires
-first-bad-requires c κs = search needs
-
-enum-known-p : tie.Need-enum-known-p
-enum-known-p c = search needs
-
 returns : tie.Need-returns
 returns c =
     let s = c .before .before .before .before .before .before .before .before .before .args in
     bad-token (s .text .now) (s .kinds .now) (s .places .now) (s .lengths .now) (s .short) (s .rows .now) (c .before .p .given .0 .0)
     (subst (Sentences (s .text .now) (s .kinds .now) (s .places .now)) (c .before .p .given .1) (c .before .before .before .first-bad .ensures))
-
-enum-told : tie.Need-enum-told
-enum-told c = search needs
-
-left-out-requires : tie.Need-left-out-requires
-left-out-requires c κs = search needs
-
-enum-known-p-2 : tie.Need-enum-known-p-2
-enum-known-p-2 c = search needs
 
 returns-2 : tie.Need-returns-2
 returns-2 c =
@@ -41,15 +26,6 @@ returns-2 c =
     left-out-there (s .text .now) (s .kinds .now) (s .places .now) (s .lengths .now) (s .short) (s .rows .now) (c .before .p2 .given .0 .0)
     (subst (Sentences (s .text .now) (s .kinds .now) (s .places .now)) (c .before .before .before .before .enum-told .given .1) (c .before .before .before .before .before .before .first-bad .ensures))
     (subst (First LeftOut (source (s .text .now) (s .kinds .now) (s .places .now) (s .lengths .now))) (c .before .p2 .given .1) (c .before .before .before .left-out .ensures))
-
-enum-told-2 : tie.Need-enum-told-2
-enum-told-2 c = search needs
-
-within-limits-requires : tie.Need-within-limits-requires
-within-limits-requires c κs = search needs
-
-same-length : tie.Need-same-length
-same-length c = search needs
 
 returns-3 : tie.Need-returns-3
 returns-3 c =
@@ -63,14 +39,9 @@ pub judge-spec : {M : Type 1} → statement M
 judge-spec =
     tie.close
     (tie.spec
-    first-bad-requires
-    enum-known-p
+    (λ c κs. search needs) (λ c. search needs)
     returns
-    enum-told
-    left-out-requires
-    enum-known-p-2
+    (λ c. search needs) (λ c κs. search needs) (λ c. search needs)
     returns-2
-    enum-told-2
-    within-limits-requires
-    same-length
+    (λ c. search needs) (λ c κs. search needs) (λ c. search needs)
     returns-3)

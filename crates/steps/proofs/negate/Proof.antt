@@ -19,12 +19,6 @@ abbrev μ-loop : tie.MeasureT-loop
 loop-holds : tie.Need-loop-holds Inv-loop μ-loop
 loop-holds c = (omega arith, omega arith, negated-none _ _ _ _)
 
-put-requires : tie.Need-put-requires Inv-loop μ-loop
-put-requires c κs = search needs
-
-refused-requires : tie.Need-refused-requires Inv-loop μ-loop
-refused-requires c κs = search needs
-
 returns : tie.Need-returns Inv-loop μ-loop
 returns c =
     let l = (c .before .before .before .before .before .loop) in
@@ -38,12 +32,6 @@ returns c =
 add-w : tie.Need-add-w Inv-loop μ-loop
 add-w c =
     let o = (c .before .put) .ensures .room (not-false _ ((c .if1) .left)) in omega arith
-
-add-i : tie.Need-add-i Inv-loop μ-loop
-add-i c = search needs
-
-loop-less : tie.Need-loop-less Inv-loop μ-loop
-loop-less c = search needs
 
 loop-again : tie.Need-loop-again Inv-loop μ-loop
 loop-again c =
@@ -64,11 +52,9 @@ negate-spec =
     Inv-loop
     μ-loop
     loop-holds
-    put-requires
-    refused-requires
+    (λ c κs. search needs) (λ c κs. search needs)
     returns
     add-w
-    add-i
-    loop-less
+    (λ c. search needs) (λ c. search needs)
     loop-again
     returns-2)

@@ -8,38 +8,8 @@ use borrow.Author.Needs.{needs}
 use Rattle.texts.proofs.move_name.Statement.{statement}
 use Rattle.texts.proofs.move_name.Tie as tie
 
-mul-number : tie.Need-mul-number
-mul-number c = search needs
-
-number-requires : tie.Need-number-requires
-number-requires c κs = search needs
-
-has-name-requires : tie.Need-has-name-requires
-has-name-requires c κs = search needs
-
-same-length : tie.Need-same-length
-same-length c = search needs
-
 returns : tie.Need-returns
 returns c = no-name (c .before .before .number .ensures) (sym (c .before .has-name .ensures) ∙ not-true _ (c .if1 .taken))
-
-mul-number-2 : tie.Need-mul-number-2
-mul-number-2 c = search needs
-
-add-number : tie.Need-add-number
-add-number c = search needs
-
-number-requires-2 : tie.Need-number-requires-2
-number-requires-2 c κs = search needs
-
-name-at-requires : tie.Need-name-at-requires
-name-at-requires c κs = search needs
-
-room-requires : tie.Need-room-requires
-room-requires c κs = search needs
-
-same-length-2 : tie.Need-same-length-2
-same-length-2 c = search needs
 
 returns-2 : tie.Need-returns-2
 returns-2 c = no-room (c .before .before .before .before .before .before .before .number .ensures) (sym (c .before .before .before .before .before .before .has-name .ensures) ∙ not-false _ (c .before .before .before .before .before .if1 .left)) (c .before .before .before .number2 .ensures) (c .before .before .name-at .ensures)
@@ -54,29 +24,11 @@ add-rows c = let z = c .before .room .ensures .fits (not-false _ (c .if2 .left))
 cast-rows : tie.Need-cast-rows
 cast-rows c = let z = c .before .room .ensures .fits (not-false _ (c .if2 .left)) in let w = c .before .before .name-at .ensures .short in omega arith
 
-mul-rows-2 : tie.Need-mul-rows-2
-mul-rows-2 c = search needs
-
-add-rows-2 : tie.Need-add-rows-2
-add-rows-2 c = search needs
-
-mul-rows-3 : tie.Need-mul-rows-3
-mul-rows-3 c = search needs
-
-slice-write-rows : tie.Need-slice-write-rows
-slice-write-rows c = search needs
-
 copy-requires : tie.Need-copy-requires
 copy-requires c κs = let z = c .before .before .room .ensures .fits (not-false _ (c .before .if2 .left)) in (z .0, c .before .before .before .name-at .ensures .near)
 
 add-result : tie.Need-add-result
 add-result c = let z = c .before .before .before .before .before .room .ensures .fits (not-false _ (c .before .before .before .before .if2 .left)) in let w = c .before .before .before .before .before .before .name-at .ensures .short in omega arith
-
-same-length-3 : tie.Need-same-length-3
-same-length-3 c = search needs
-
-same-length-4 : tie.Need-same-length-4
-same-length-4 c = search needs
 
 returns-3 : tie.Need-returns-3
 returns-3 c = name-moved (c .before .before .before .before .before .before .before .before .before .before .before .number .ensures) (sym (c .before .before .before .before .before .before .before .before .before .before .has-name .ensures) ∙ not-false _ (c .before .before .before .before .before .before .before .before .before .if1 .left)) (c .before .before .before .before .before .before .before .number2 .ensures) (c .before .before .before .before .before .before .name-at .ensures) (c .before .before .before .before .before .before .before .before .before .before .before .before .before .before .before .before .before .before .pre) (c .before .before .copy .ensures)
@@ -85,27 +37,15 @@ pub move-name-spec : {M : Type 1} → statement M
 move-name-spec =
     tie.close
     (tie.spec
-    mul-number
-    number-requires
-    has-name-requires
-    same-length
+    (λ c. search needs) (λ c κs. search needs) (λ c κs. search needs) (λ c. search needs)
     returns
-    mul-number-2
-    add-number
-    number-requires-2
-    name-at-requires
-    room-requires
-    same-length-2
+    (λ c. search needs) (λ c. search needs) (λ c κs. search needs) (λ c κs. search needs) (λ c κs. search needs) (λ c. search needs)
     returns-2
     mul-rows
     add-rows
     cast-rows
-    mul-rows-2
-    add-rows-2
-    mul-rows-3
-    slice-write-rows
+    (λ c. search needs) (λ c. search needs) (λ c. search needs) (λ c. search needs)
     copy-requires
     add-result
-    same-length-3
-    same-length-4
+    (λ c. search needs) (λ c. search needs)
     returns-3)

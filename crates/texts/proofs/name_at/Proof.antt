@@ -8,17 +8,8 @@ use borrow.Author.Needs.{needs}
 use Rattle.texts.proofs.name_at.Statement.{statement}
 use Rattle.texts.proofs.name_at.Tie as tie
 
-cell-requires : tie.Need-cell-requires
-cell-requires c κs = search needs
-
-cell-requires-2 : tie.Need-cell-requires-2
-cell-requires-2 c κs = search needs
-
 returns : tie.Need-returns
 returns c = record { short = omega arith; near = omega arith; named = λ kinds n s h. absurd (let z = s .short in omega arith) }
-
-fits-requires : tie.Need-fits-requires
-fits-requires c κs = search needs
 
 returns-2 : tie.Need-returns-2
 returns-2 c =
@@ -40,10 +31,9 @@ pub name-at-spec : {M : Type 1} → statement M
 name-at-spec =
     tie.close
     (tie.spec
-    cell-requires
-    cell-requires-2
+    (λ c κs. search needs) (λ c κs. search needs)
     returns
-    fits-requires
+    (λ c κs. search needs)
     returns-2
     inside-requires
     returns-3

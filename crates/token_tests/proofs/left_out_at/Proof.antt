@@ -11,24 +11,6 @@ use borrow.Author.Needs.{needs}
 use Rattle.token_tests.proofs.left_out_at.Statement.{statement}
 use Rattle.token_tests.proofs.left_out_at.Tie as tie
 
-cell-requires : tie.Need-cell-requires
-cell-requires c κs = search needs
-
-cell-requires-2 : tie.Need-cell-requires-2
-cell-requires-2 c κs = search needs
-
-fits-requires : tie.Need-fits-requires
-fits-requires c κs = search needs
-
-byte-requires : tie.Need-byte-requires
-byte-requires c κs = search needs
-
-add-byte : tie.Need-add-byte
-add-byte c = search needs
-
-byte-requires-2 : tie.Need-byte-requires-2
-byte-requires-2 c κs = search needs
-
 is-left-out-requires : tie.Need-is-left-out-requires
 is-left-out-requires c κs = c .before .before .before .fits2 .ensures .0 (c .before .before .if1 .taken)
 
@@ -58,12 +40,7 @@ pub left-out-at-spec : {M : Type 1} → statement M
 left-out-at-spec =
     tie.close
     (tie.spec
-    cell-requires
-    cell-requires-2
-    fits-requires
-    byte-requires
-    add-byte
-    byte-requires-2
+    (λ c κs. search needs) (λ c κs. search needs) (λ c κs. search needs) (λ c κs. search needs) (λ c. search needs) (λ c κs. search needs)
     is-left-out-requires
     returns
     returns-2)

@@ -11,18 +11,6 @@ use borrow.Author.Needs.{needs}
 use Rattle.token_tests.proofs.past_limit_at.Statement.{statement}
 use Rattle.token_tests.proofs.past_limit_at.Tie as tie
 
-cell-requires : tie.Need-cell-requires
-cell-requires c κs = search needs
-
-cell-requires-2 : tie.Need-cell-requires-2
-cell-requires-2 c κs = search needs
-
-fits-requires : tie.Need-fits-requires
-fits-requires c κs = search needs
-
-byte-requires : tie.Need-byte-requires
-byte-requires c κs = search needs
-
 is-past-limit-requires : tie.Need-is-past-limit-requires
 is-past-limit-requires c κs = c .before .before .fits2 .ensures .0 (c .before .if1 .taken)
 
@@ -50,10 +38,7 @@ pub past-limit-at-spec : {M : Type 1} → statement M
 past-limit-at-spec =
     tie.close
     (tie.spec
-    cell-requires
-    cell-requires-2
-    fits-requires
-    byte-requires
+    (λ c κs. search needs) (λ c κs. search needs) (λ c κs. search needs) (λ c κs. search needs)
     is-past-limit-requires
     returns
     returns-2)

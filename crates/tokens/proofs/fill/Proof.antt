@@ -21,9 +21,6 @@ Inv-loop text kinds₀ places₀ lengths₀ end cursor₀ n₀ b₀ kinds places
 abbrev μ-loop : tie.MeasureT-loop
 μ-loop text kinds₀ places₀ lengths₀ end cursor₀ n₀ b₀ kinds places lengths cursor n b = length text - cursor .at
 
-new-requires : tie.Need-new-requires Inv-loop μ-loop
-new-requires c κs = search needs
-
 loop-holds : tie.Need-loop-holds Inv-loop μ-loop
 loop-holds c =
     let s = c .before .before .before .before .before in
@@ -42,9 +39,6 @@ loop-holds c =
 
 token-requires : tie.Need-token-requires Inv-loop μ-loop
 token-requires c κs = c .loop .inv .0
-
-enum-known-token : tie.Need-enum-known-token Inv-loop μ-loop
-enum-known-token c = search needs
 
 put-requires : tie.Need-put-requires Inv-loop μ-loop
 put-requires c κs =
@@ -86,9 +80,6 @@ loop-again c =
           (e .0) (c .bracket .ensures) (e .1 .0) (e .1 .1 .0) (e .1 .1 .1),
     )
 
-enum-told : tie.Need-enum-told Inv-loop μ-loop
-enum-told c = search needs
-
 same-length : tie.Need-same-length Inv-loop μ-loop
 same-length c = c .before .before .before .loop .inv .1 .kinds-length
 
@@ -115,15 +106,15 @@ fill-spec =
     (tie.spec
     Inv-loop
     μ-loop
-    new-requires
+    (λ c κs. search needs)
     loop-holds
     token-requires
-    enum-known-token
+    (λ c. search needs)
     put-requires
     bracket-requires
     loop-less
     loop-again
-    enum-told
+    (λ c. search needs)
     same-length
     same-length-2
     same-length-3

@@ -14,21 +14,6 @@ use Rattle.tokens.proofs.Columns.{blank-length, blank-again, blank-self
 use Rattle.tokens.proofs.tokens.Statement.{statement}
 use Rattle.tokens.proofs.tokens.Tie as tie
 
-blank-requires : tie.Need-blank-requires
-blank-requires c κs = search needs
-
-room-requires : tie.Need-room-requires
-room-requires c κs = search needs
-
-same-length : tie.Need-same-length
-same-length c = search needs
-
-same-length-2 : tie.Need-same-length-2
-same-length-2 c = search needs
-
-same-length-3 : tie.Need-same-length-3
-same-length-3 c = search needs
-
 returns : tie.Need-returns
 returns c =
     let s = c .before .before .before .before .before .before .before .before .before .before .before .before .before .before .before .before .args in
@@ -43,21 +28,6 @@ returns c =
       lengths-are = b .1 .1;
     }
 
-early-requires : tie.Need-early-requires
-early-requires c κs = search needs
-
-enum-known-number : tie.Need-enum-known-number
-enum-known-number c = search needs
-
-same-length-4 : tie.Need-same-length-4
-same-length-4 c = search needs
-
-same-length-5 : tie.Need-same-length-5
-same-length-5 c = search needs
-
-same-length-6 : tie.Need-same-length-6
-same-length-6 c = search needs
-
 returns-2 : tie.Need-returns-2
 returns-2 c =
     let s = c .before .before .before .before .before .before .before .before .before .before .before .before .before .before .before .before .before .before .before .before .args in
@@ -68,9 +38,6 @@ returns-2 c =
     let room = room-is k p l (c .before .before .before .before .before .room .result) true (not-false (c .before .before .before .before .before .room .result) (c .before .before .before .before .if1 .left)) (c .before .before .before .before .before .room .ensures) in
     let out = out-early (subst (Early (s .text .now)) (c .before .number .given .1) (c .before .before .before .early .ensures)) in
     (room, record { refused = out .refused; stage = out .stage; kinds-are = b .0; places-are = b .1 .0; lengths-are = b .1 .1 })
-
-enum-told : tie.Need-enum-told
-enum-told c = search needs
 
 fill-requires : tie.Need-fill-requires
 fill-requires c κs =
@@ -86,18 +53,6 @@ fill-requires c κs =
       (blank-self (length (s .kinds .now)) (b .0), blank-self (length (s .places .now)) (b .1 .0), blank-self (length (s .lengths .now)) (b .1 .1)),
     )
 
-late-requires : tie.Need-late-requires
-late-requires c κs = search needs
-
-enum-known-number-2 : tie.Need-enum-known-number-2
-enum-known-number-2 c = search needs
-
-blank-requires-2 : tie.Need-blank-requires-2
-blank-requires-2 c κs = search needs
-
-enum-told-2 : tie.Need-enum-told-2
-enum-told-2 c = search needs
-
 same-length-7 : tie.Need-same-length-7
 same-length-7 c =
     let u = c .before .before .before .before .before .before .before .before .before .before .before .before .before .before .before .before .before .before .before .before .fill .ensures .upto in
@@ -107,9 +62,6 @@ same-length-8 : tie.Need-same-length-8
 same-length-8 c =
     let u = c .before .before .before .before .before .before .before .before .before .before .before .before .before .before .before .before .before .before .before .before .fill .ensures .upto in
     blank-length _ (c .before .before .before .before .before .before .blank2 .ensures .1 .0) ∙ u .places-length ∙ blank-length _ (c .before .before .before .before .before .before .before .before .before .before .before .before .before .before .before .before .before .before .before .before .before .before .before .before .before .before .before .before .before .before .before .before .before .before .before .blank .ensures .1 .0)
-
-same-length-9 : tie.Need-same-length-9
-same-length-9 c = search needs
 
 returns-3 : tie.Need-returns-3
 returns-3 c =
@@ -133,15 +85,6 @@ returns-3 c =
       },
     )
 
-same-length-10 : tie.Need-same-length-10
-same-length-10 c = search needs
-
-same-length-11 : tie.Need-same-length-11
-same-length-11 c = search needs
-
-same-length-12 : tie.Need-same-length-12
-same-length-12 c = search needs
-
 returns-4 : tie.Need-returns-4
 returns-4 c =
     let s = c .before .before .before .before .before .before .before .before .before .before .before .before .before .before .before .before .before .before .before .before .before .before .before .before .before .before .before .before .before .before .before .before .args in
@@ -159,29 +102,16 @@ pub tokens-spec : {M : Type 1} → statement M
 tokens-spec =
     tie.close
     (tie.spec
-    blank-requires
-    room-requires
-    same-length
-    same-length-2
-    same-length-3
+    (λ c κs. search needs) (λ c κs. search needs) (λ c. search needs) (λ c. search needs) (λ c. search needs)
     returns
-    early-requires
-    enum-known-number
-    same-length-4
-    same-length-5
-    same-length-6
+    (λ c κs. search needs) (λ c. search needs) (λ c. search needs) (λ c. search needs) (λ c. search needs)
     returns-2
-    enum-told
+    (λ c. search needs)
     fill-requires
-    late-requires
-    enum-known-number-2
-    blank-requires-2
-    enum-told-2
+    (λ c κs. search needs) (λ c. search needs) (λ c κs. search needs) (λ c. search needs)
     same-length-7
     same-length-8
-    same-length-9
+    (λ c. search needs)
     returns-3
-    same-length-10
-    same-length-11
-    same-length-12
+    (λ c. search needs) (λ c. search needs) (λ c. search needs)
     returns-4)

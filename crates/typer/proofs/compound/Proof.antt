@@ -14,11 +14,8 @@ returns-2 c = simp (not-false (c .before .before .before .args .s .typed) (c .be
 returns-3 : tie.Need-returns-3
 returns-3 c = simp (not-false (c .before .before .before .before .args .s .typed) (c .before .before .if1 .left), ne-eqb _ 5 (c .before .if2 .left), lt-ltb 3 _ (c .if3 .taken))
 
-apply-requires : tie.Need-apply-requires
-apply-requires c κs = search needs
-
 returns-4 : tie.Need-returns-4
 returns-4 c = c .apply .ensures ∙ simp (not-false (c .before .before .before .before .before .args .s .typed) (c .before .before .before .if1 .left), ne-eqb _ 5 (c .before .before .if2 .left), le-ltb 3 _ (c .before .if3 .left))
 
 pub compound-spec : {M : Type 1} → statement M
-compound-spec = tie.close (tie.spec returns returns-2 returns-3 apply-requires returns-4)
+compound-spec = tie.close (tie.spec returns returns-2 returns-3 (λ c κs. search needs) returns-4)

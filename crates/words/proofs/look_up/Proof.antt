@@ -26,9 +26,6 @@ loop-holds c = (omega arith, from-start, below-none _)
 array-read-wide : tie.Need-array-read-wide Inv-loop μ-loop
 array-read-wide c = let l = c .before .loop in let f = fits (l .p) (l .i) (c .loop-test .taken) (l .inv .1) in omega (arith, table-length)
 
-wide-requires : tie.Need-wide-requires Inv-loop μ-loop
-wide-requires c κs = search needs
-
 add-stands : tie.Need-add-stands Inv-loop μ-loop
 add-stands c = let l = c .before .before .loop in let f = fits (l .p) (l .i) (c .before .loop-test .taken) (l .inv .1) in omega (arith, table-length)
 
@@ -73,12 +70,6 @@ add-p-2 c =
     let s = size (c .before .before) in
     omega (arith, table-length)
 
-add-i : tie.Need-add-i Inv-loop μ-loop
-add-i c = omega arith
-
-loop-less : tie.Need-loop-less Inv-loop μ-loop
-loop-less c = omega arith
-
 loop-again : tie.Need-loop-again Inv-loop μ-loop
 loop-again c =
     let l = c .before .before .before .before .loop in
@@ -102,13 +93,12 @@ look-up-spec =
     μ-loop
     loop-holds
     array-read-wide
-    wide-requires
+    (λ c κs. search needs)
     add-stands
     stands-requires
     returns
     add-p
     add-p-2
-    add-i
-    loop-less
+    (λ c. omega arith) (λ c. omega arith)
     loop-again
     returns-2)

@@ -24,12 +24,6 @@ abbrev μ-loop : tie.MeasureT-loop
 loop-holds : tie.Need-loop-holds Inv-loop μ-loop
 loop-holds c = (omega arith, below-none _)
 
-add-if1 : tie.Need-add-if1 Inv-loop μ-loop
-add-if1 c = omega arith
-
-shared-slice-read-if1 : tie.Need-shared-slice-read-if1 Inv-loop μ-loop
-shared-slice-read-if1 c = omega arith
-
 add-if1-2 : tie.Need-add-if1-2 Inv-loop μ-loop
 add-if1-2 c = omega (arith, table-length)
 
@@ -47,12 +41,6 @@ returns c =
       no = λ _ e. c .if1 .taken
           (sym (part-at (s .text .now) (s .at) (s .n) j h) ∙ ap (λ (w : List ℕ). getD w j 0) e ∙ part-at table (s .p) (s .n) j h);
     }
-
-add-j : tie.Need-add-j Inv-loop μ-loop
-add-j c = omega arith
-
-loop-less : tie.Need-loop-less Inv-loop μ-loop
-loop-less c = omega arith
 
 loop-again : tie.Need-loop-again Inv-loop μ-loop
 unfolding table packed strings reserved yes-or-no data-types
@@ -74,12 +62,10 @@ same-spec =
     Inv-loop
     μ-loop
     loop-holds
-    add-if1
-    shared-slice-read-if1
+    (λ c. omega arith) (λ c. omega arith)
     add-if1-2
     array-read-if1
     returns
-    add-j
-    loop-less
+    (λ c. omega arith) (λ c. omega arith)
     loop-again
     returns-2)

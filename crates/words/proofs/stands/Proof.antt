@@ -19,13 +19,10 @@ returns c =
           (sym (part-length table (s .p) (s .size) (c .before .before .pre .1)) ∙ ap length (sym e) ∙ part-length (s .text .now) (s .at) (s .n) (c .before .before .pre .0));
     }
 
-same-requires : tie.Need-same-requires
-same-requires c κs = search needs
-
 returns-2 : tie.Need-returns-2
 returns-2 c =
     let s = c .before .before .before .args in
     subst (λ (m : ℕ). Same (part (s .text .now) (s .at) (s .n)) (part table (s .p) m) (c .same .result)) (sym (c .before .if1 .left)) (c .same .ensures)
 
 pub stands-spec : {M : Type 1} → statement M
-stands-spec = tie.close (tie.spec returns same-requires returns-2)
+stands-spec = tie.close (tie.spec returns (λ c κs. search needs) returns-2)

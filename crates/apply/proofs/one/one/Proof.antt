@@ -7,42 +7,6 @@ use Rattle.apply.specs.Applies.{arm, state-arm, sole, no-one}
 use Rattle.apply.proofs.one.one.Statement.{statement}
 use Rattle.apply.proofs.one.one.Tie as tie
 
-negate-requires : tie.Need-negate-requires
-negate-requires c κs = search needs
-
-isknown-requires : tie.Need-isknown-requires
-isknown-requires c κs = search needs
-
-not-requires : tie.Need-not-requires
-not-requires c κs = search needs
-
-count-requires : tie.Need-count-requires
-count-requires c κs = search needs
-
-sum-requires : tie.Need-sum-requires
-sum-requires c κs = search needs
-
-max-requires : tie.Need-max-requires
-max-requires c κs = search needs
-
-min-requires : tie.Need-min-requires
-min-requires c κs = search needs
-
-is-in-requires : tie.Need-is-in-requires
-is-in-requires c κs = search needs
-
-is-in-requires-2 : tie.Need-is-in-requires-2
-is-in-requires-2 c κs = search needs
-
-is-in-requires-3 : tie.Need-is-in-requires-3
-is-in-requires-3 c κs = search needs
-
-is-in-requires-4 : tie.Need-is-in-requires-4
-is-in-requires-4 c κs = search needs
-
-single-requires : tie.Need-single-requires
-single-requires c κs = search needs
-
 returns : tie.Need-returns
 returns c = let a = c .before .before .before .before .before .args in arm (a .bytes .now) (a .tasks .now) (a .states .now) (a .kind) (c .negate .result) 80 (a .a ∷ []) (c .before .match .keys1) (λ l. c .negate .ensures (a .bytes .now) (sole l))
 
@@ -80,4 +44,4 @@ returns-12 : tie.Need-returns-12
 returns-12 c = let a = c .before .before .before .before .before .args in let n = c .before .match .rest in no-one (a .bytes .now) (a .tasks .now) (a .states .now) (a .kind) (c .single .result) (a .a) (n .0 .0 .0 .0 .0 .0 .0 .0 .0 .0 .1) (n .0 .0 .0 .0 .0 .0 .0 .0 .0 .1) (n .0 .0 .0 .0 .0 .0 .0 .0 .1) (n .0 .0 .0 .0 .0 .0 .0 .1) (n .0 .0 .0 .0 .0 .0 .1) (n .0 .0 .0 .0 .0 .1) (n .0 .0 .0 .0 .1) (n .0 .0 .0 .1) (n .0 .0 .1) (n .0 .1) (n .1)
 
 pub one-spec : {M : Type 1} → statement M
-one-spec = tie.close (tie.spec negate-requires isknown-requires not-requires count-requires sum-requires max-requires min-requires is-in-requires is-in-requires-2 is-in-requires-3 is-in-requires-4 single-requires returns returns-2 returns-3 returns-4 returns-5 returns-6 returns-7 returns-8 returns-9 returns-10 returns-11 returns-12)
+one-spec = tie.close (tie.spec (λ c κs. search needs) (λ c κs. search needs) (λ c κs. search needs) (λ c κs. search needs) (λ c κs. search needs) (λ c κs. search needs) (λ c κs. search needs) (λ c κs. search needs) (λ c κs. search needs) (λ c κs. search needs) (λ c κs. search needs) (λ c κs. search needs) returns returns-2 returns-3 returns-4 returns-5 returns-6 returns-7 returns-8 returns-9 returns-10 returns-11 returns-12)

@@ -4,12 +4,6 @@ use Rattle.apply.specs.Tasks.{state-found, state-missing}
 use Rattle.apply.proofs.states.in_state.Statement.{statement}
 use Rattle.apply.proofs.states.in_state.Tie as tie
 
-find-task-requires : tie.Need-find-task-requires
-find-task-requires c κs = search needs
-
-byte-requires : tie.Need-byte-requires
-byte-requires c κs = search needs
-
 returns : tie.Need-returns
 returns c =
     let a = c .before .before .before .before .before .before .args in
@@ -21,4 +15,4 @@ returns-2 c =
     state-missing (a .bytes .now) (a .tasks .now) (a .states .now) (a .state) (a .h) (c .before .find-task .result) (c .before .find-task .ensures) (c .if1 .left)
 
 pub in-state-spec : {M : Type 1} → statement M
-in-state-spec = tie.close (tie.spec find-task-requires byte-requires returns returns-2)
+in-state-spec = tie.close (tie.spec (λ c κs. search needs) (λ c κs. search needs) returns returns-2)

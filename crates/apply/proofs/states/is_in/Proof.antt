@@ -6,42 +6,6 @@ use Rattle.apply.specs.IsIn.{asked-text, asked-other}
 use Rattle.apply.proofs.states.is_in.Statement.{statement}
 use Rattle.apply.proofs.states.is_in.Tie as tie
 
-scalar-of-requires : tie.Need-scalar-of-requires
-scalar-of-requires c κs = search needs
-
-enum-told : tie.Need-enum-told
-enum-told c = search needs
-
-single-requires : tie.Need-single-requires
-single-requires c κs = search needs
-
-enum-told-2 : tie.Need-enum-told-2
-enum-told-2 c = search needs
-
-single-requires-2 : tie.Need-single-requires-2
-single-requires-2 c κs = search needs
-
-enum-told-3 : tie.Need-enum-told-3
-enum-told-3 c = search needs
-
-single-requires-3 : tie.Need-single-requires-3
-single-requires-3 c κs = search needs
-
-enum-told-4 : tie.Need-enum-told-4
-enum-told-4 c = search needs
-
-single-requires-4 : tie.Need-single-requires-4
-single-requires-4 c κs = search needs
-
-enum-known-s : tie.Need-enum-known-s
-enum-known-s c = search needs
-
-in-state-requires : tie.Need-in-state-requires
-in-state-requires c κs = search needs
-
-single-requires-5 : tie.Need-single-requires-5
-single-requires-5 c κs = search needs
-
 returns : tie.Need-returns
 returns c =
     let a = c .before .before .before .before .before .before .before .args in
@@ -71,18 +35,8 @@ pub is-in-spec : {M : Type 1} → statement M
 is-in-spec =
     tie.close
     (tie.spec
-    scalar-of-requires
-    enum-told
-    single-requires
-    enum-told-2
-    single-requires-2
-    enum-told-3
-    single-requires-3
-    enum-told-4
-    single-requires-4
-    enum-known-s
-    in-state-requires
-    single-requires-5
+    (λ c κs. search needs) (λ c. search needs) (λ c κs. search needs) (λ c. search needs) (λ c κs. search needs) (λ c. search needs)
+    (λ c κs. search needs) (λ c. search needs) (λ c κs. search needs) (λ c. search needs) (λ c κs. search needs) (λ c κs. search needs)
     returns
     returns-2
     returns-3

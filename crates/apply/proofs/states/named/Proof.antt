@@ -8,18 +8,6 @@ use Rattle.apply.proofs.states.named.Tie as tie
 returns : tie.Need-returns
 returns c = simp (eq-eqb _ 0 (c .if1 .taken))
 
-handle-requires : tie.Need-handle-requires
-handle-requires c κs = search needs
-
-part-requires : tie.Need-part-requires
-part-requires c κs = search needs
-
-part-requires-2 : tie.Need-part-requires-2
-part-requires-2 c κs = search needs
-
-alike-requires : tie.Need-alike-requires
-alike-requires c κs = search needs
-
 returns-2 : tie.Need-returns-2
 returns-2 c =
     let a = c .before .before .before .before .before .before .args in
@@ -28,4 +16,4 @@ returns-2 c =
 pub named-spec : {M : Type 1} → statement M
 named-spec =
     tie.close
-    (tie.spec returns handle-requires part-requires part-requires-2 alike-requires returns-2)
+    (tie.spec returns (λ c κs. search needs) (λ c κs. search needs) (λ c κs. search needs) (λ c κs. search needs) returns-2)

@@ -5,54 +5,6 @@ use Rattle.apply.specs.Applies.{arm, no-two}
 use Rattle.apply.proofs.two.two.Statement.{statement}
 use Rattle.apply.proofs.two.two.Tie as tie
 
-arithmetic-requires : tie.Need-arithmetic-requires
-arithmetic-requires c κs = search needs
-
-arithmetic-requires-2 : tie.Need-arithmetic-requires-2
-arithmetic-requires-2 c κs = search needs
-
-arithmetic-requires-3 : tie.Need-arithmetic-requires-3
-arithmetic-requires-3 c κs = search needs
-
-divide-requires : tie.Need-divide-requires
-divide-requires c κs = search needs
-
-compare-requires : tie.Need-compare-requires
-compare-requires c κs = search needs
-
-compare-requires-2 : tie.Need-compare-requires-2
-compare-requires-2 c κs = search needs
-
-compare-requires-3 : tie.Need-compare-requires-3
-compare-requires-3 c κs = search needs
-
-compare-requires-4 : tie.Need-compare-requires-4
-compare-requires-4 c κs = search needs
-
-compare-requires-5 : tie.Need-compare-requires-5
-compare-requires-5 c κs = search needs
-
-compare-requires-6 : tie.Need-compare-requires-6
-compare-requires-6 c κs = search needs
-
-and-requires : tie.Need-and-requires
-and-requires c κs = search needs
-
-or-requires : tie.Need-or-requires
-or-requires c κs = search needs
-
-includes-requires : tie.Need-includes-requires
-includes-requires c κs = search needs
-
-oneof-requires : tie.Need-oneof-requires
-oneof-requires c κs = search needs
-
-nth-requires : tie.Need-nth-requires
-nth-requires c κs = search needs
-
-single-requires : tie.Need-single-requires
-single-requires c κs = search needs
-
 returns : tie.Need-returns
 returns c = let a = c .before .before .before .before .before .args in arm (a .bytes .now) (a .tasks .now) (a .states .now) (a .kind) (c .arithmetic .result) 10 (a .a ∷ a .b ∷ []) (c .before .match .keys1) (λ l. c .arithmetic .ensures (a .bytes .now))
 
@@ -102,4 +54,4 @@ returns-16 : tie.Need-returns-16
 returns-16 c = let a = c .before .before .before .before .before .args in let n = c .before .match .rest in no-two (a .bytes .now) (a .tasks .now) (a .states .now) (a .kind) (c .single .result) (a .a) (a .b) (n .0 .0 .0 .0 .0 .0 .0 .0 .0 .0 .0 .0 .0 .0 .1) (n .0 .0 .0 .0 .0 .0 .0 .0 .0 .0 .0 .0 .0 .1) (n .0 .0 .0 .0 .0 .0 .0 .0 .0 .0 .0 .0 .1) (n .0 .0 .0 .0 .0 .0 .0 .0 .0 .0 .0 .1) (n .0 .0 .0 .0 .0 .0 .0 .0 .0 .0 .1) (n .0 .0 .0 .0 .0 .0 .0 .0 .0 .1) (n .0 .0 .0 .0 .0 .0 .0 .0 .1) (n .0 .0 .0 .0 .0 .0 .0 .1) (n .0 .0 .0 .0 .0 .0 .1) (n .0 .0 .0 .0 .0 .1) (n .0 .0 .0 .0 .1) (n .0 .0 .0 .1) (n .0 .0 .1) (n .0 .1) (n .1)
 
 pub two-spec : {M : Type 1} → statement M
-two-spec = tie.close (tie.spec arithmetic-requires arithmetic-requires-2 arithmetic-requires-3 divide-requires compare-requires compare-requires-2 compare-requires-3 compare-requires-4 compare-requires-5 compare-requires-6 and-requires or-requires includes-requires oneof-requires nth-requires single-requires returns returns-2 returns-3 returns-4 returns-5 returns-6 returns-7 returns-8 returns-9 returns-10 returns-11 returns-12 returns-13 returns-14 returns-15 returns-16)
+two-spec = tie.close (tie.spec (λ c κs. search needs) (λ c κs. search needs) (λ c κs. search needs) (λ c κs. search needs) (λ c κs. search needs) (λ c κs. search needs) (λ c κs. search needs) (λ c κs. search needs) (λ c κs. search needs) (λ c κs. search needs) (λ c κs. search needs) (λ c κs. search needs) (λ c κs. search needs) (λ c κs. search needs) (λ c κs. search needs) (λ c κs. search needs) returns returns-2 returns-3 returns-4 returns-5 returns-6 returns-7 returns-8 returns-9 returns-10 returns-11 returns-12 returns-13 returns-14 returns-15 returns-16)

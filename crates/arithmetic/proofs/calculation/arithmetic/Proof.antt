@@ -10,18 +10,6 @@ use borrow.Author.Needs.{needs}
 use Rattle.arithmetic.proofs.calculation.arithmetic.Statement.{statement}
 use Rattle.arithmetic.proofs.calculation.arithmetic.Tie as tie
 
-scalar-of-requires : tie.Need-scalar-of-requires
-scalar-of-requires c κs = search needs
-
-scalar-of-requires-2 : tie.Need-scalar-of-requires-2
-scalar-of-requires-2 c κs = search needs
-
-arithmetic-of-requires : tie.Need-arithmetic-of-requires
-arithmetic-of-requires c κs = search needs
-
-single-requires : tie.Need-single-requires
-single-requires c κs = search needs
-
 returns : tie.Need-returns
 returns c = λ bs. let a = c .before .before .before .before .args in
     means bs (section-11.arithmetic (operation (a .o))) (a .a ∷ a .b ∷ []) (c .single .result) tt
@@ -32,8 +20,5 @@ pub arithmetic-spec : {M : Type 1} → statement M
 arithmetic-spec =
     tie.close
     (tie.spec
-    scalar-of-requires
-    scalar-of-requires-2
-    arithmetic-of-requires
-    single-requires
+    (λ c κs. search needs) (λ c κs. search needs) (λ c κs. search needs) (λ c κs. search needs)
     returns)

@@ -9,18 +9,6 @@ use borrow.Author.Needs.{needs}
 use Rattle.arithmetic.proofs.calculation.divide.Statement.{statement}
 use Rattle.arithmetic.proofs.calculation.divide.Tie as tie
 
-scalar-of-requires : tie.Need-scalar-of-requires
-scalar-of-requires c κs = search needs
-
-scalar-of-requires-2 : tie.Need-scalar-of-requires-2
-scalar-of-requires-2 c κs = search needs
-
-divide-of-requires : tie.Need-divide-of-requires
-divide-of-requires c κs = search needs
-
-single-requires : tie.Need-single-requires
-single-requires c κs = search needs
-
 returns : tie.Need-returns
 returns c = λ bs. let a = c .before .before .before .before .args in
     means bs section-11.divide (a .a ∷ a .b ∷ []) (c .single .result) tt
@@ -30,4 +18,4 @@ returns c = λ bs. let a = c .before .before .before .before .args in
 pub divide-spec : {M : Type 1} → statement M
 divide-spec =
     tie.close
-    (tie.spec scalar-of-requires scalar-of-requires-2 divide-of-requires single-requires returns)
+    (tie.spec (λ c κs. search needs) (λ c κs. search needs) (λ c κs. search needs) (λ c κs. search needs) returns)

@@ -9,19 +9,10 @@ use borrow.Author.Needs.{needs}
 use Rattle.arithmetic.proofs.calculation.negate.Statement.{statement}
 use Rattle.arithmetic.proofs.calculation.negate.Tie as tie
 
-scalar-of-requires : tie.Need-scalar-of-requires
-scalar-of-requires c κs = search needs
-
-negate-of-requires : tie.Need-negate-of-requires
-negate-of-requires c κs = search needs
-
-single-requires : tie.Need-single-requires
-single-requires c κs = search needs
-
 returns : tie.Need-returns
 returns c = λ bs l. let a = c .before .before .before .args in
     means bs section-11.negate (a .a ∷ []) (c .single .result) tt
     (single-is bs (c .single .result) (c .single .ensures) ∙ negate-comes bs (a .a) (c .before .negate-of .ensures ∙ ap negateC (c .before .before .scalar-of .ensures)) l)
 
 pub negate-spec : {M : Type 1} → statement M
-negate-spec = tie.close (tie.spec scalar-of-requires negate-of-requires single-requires returns)
+negate-spec = tie.close (tie.spec (λ c κs. search needs) (λ c κs. search needs) (λ c κs. search needs) returns)

@@ -9,21 +9,6 @@ use borrow.Author.Needs.{needs}
 use Rattle.arithmetic.proofs.calculation.quotient.Statement.{statement}
 use Rattle.arithmetic.proofs.calculation.quotient.Tie as tie
 
-is-zero-requires : tie.Need-is-zero-requires
-is-zero-requires c κs = search needs
-
-returns : tie.Need-returns
-returns c = search needs
-
-scaled-requires : tie.Need-scaled-requires
-scaled-requires c κs = search needs
-
-cut-requires : tie.Need-cut-requires
-cut-requires c κs = search needs
-
-real-requires : tie.Need-real-requires
-real-requires c κs = search needs
-
 returns-2 : tie.Need-returns-2
 returns-2 c =
     let e : zeroZ (c .before .before .before .before .before .args .y .z) ≡ false = sym (c .before .before .before .before .is-zero .ensures) ∙ c .before .before .before .if1 .left in
@@ -32,4 +17,4 @@ returns-2 c =
 pub quotient-spec : {M : Type 1} → statement M
 quotient-spec =
     tie.close
-    (tie.spec is-zero-requires returns scaled-requires cut-requires real-requires returns-2)
+    (tie.spec (λ c κs. search needs) (λ c. search needs) (λ c κs. search needs) (λ c κs. search needs) (λ c κs. search needs) returns-2)

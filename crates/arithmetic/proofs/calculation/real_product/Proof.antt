@@ -7,14 +7,8 @@ use borrow.Author.Needs.{needs}
 use Rattle.arithmetic.proofs.calculation.real_product.Statement.{statement}
 use Rattle.arithmetic.proofs.calculation.real_product.Tie as tie
 
-product-requires : tie.Need-product-requires
-product-requires c κs = search needs
-
-cut-requires : tie.Need-cut-requires
-cut-requires c κs = search needs
-
 returns : tie.Need-returns
 returns c = c .cut .ensures ∙ ap (λ (z : ℤ). cut z unit) (c .before .product .ensures .0)
 
 pub real-product-spec : {M : Type 1} → statement M
-real-product-spec = tie.close (tie.spec product-requires cut-requires returns)
+real-product-spec = tie.close (tie.spec (λ c κs. search needs) (λ c κs. search needs) returns)

@@ -4,26 +4,14 @@ use borrow.Author.Needs.{needs}
 use Rattle.comparison.proofs.comparing.comp.Statement.{statement}
 use Rattle.comparison.proofs.comparing.comp.Tie as tie
 
-comp-lists-requires : tie.Need-comp-lists-requires
-comp-lists-requires c κs = search needs
-
 returns : tie.Need-returns
 returns c = lists (c .before .before .before .before .before .before .args .bytes .now) (c .before .before .before .before .before .before .args .a) (c .before .before .before .before .before .before .args .b) (c .before .before .if1 .taken) (c .before .if2 .taken) (c .comp-lists .ensures)
-
-comp-beside-requires : tie.Need-comp-beside-requires
-comp-beside-requires c κs = search needs
 
 returns-2 : tie.Need-returns-2
 returns-2 c = list-scalar (c .before .before .before .before .before .before .args .bytes .now) (c .before .before .before .before .before .before .args .a) (c .before .before .before .before .before .before .args .b) (c .before .before .if1 .taken) (c .before .if2 .left) (c .comp-beside .ensures)
 
-comp-beside-requires-2 : tie.Need-comp-beside-requires-2
-comp-beside-requires-2 c κs = search needs
-
 returns-3 : tie.Need-returns-3
 returns-3 c = scalar-list (c .before .before .before .before .before .before .args .bytes .now) (c .before .before .before .before .before .before .args .a) (c .before .before .before .before .before .before .args .b) (c .before .before .if1 .left) (c .before .if3 .taken) (c .comp-beside2 .ensures)
-
-comp-scalars-requires : tie.Need-comp-scalars-requires
-comp-scalars-requires c κs = search needs
 
 returns-4 : tie.Need-returns-4
 returns-4 c = two-scalars (c .before .before .before .before .before .before .args .bytes .now) (c .before .before .before .before .before .before .args .a) (c .before .before .before .before .before .before .args .b) (c .before .before .if1 .left) (c .before .if3 .left) (c .comp-scalars .ensures)
@@ -32,11 +20,11 @@ pub comp-spec : {M : Type 1} → statement M
 comp-spec =
     tie.close
     (tie.spec
-    comp-lists-requires
+    (λ c κs. search needs)
     returns
-    comp-beside-requires
+    (λ c κs. search needs)
     returns-2
-    comp-beside-requires-2
+    (λ c κs. search needs)
     returns-3
-    comp-scalars-requires
+    (λ c κs. search needs)
     returns-4)

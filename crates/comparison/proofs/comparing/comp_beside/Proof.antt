@@ -8,15 +8,6 @@ use borrow.Author.Needs.{needs}
 use Rattle.comparison.proofs.comparing.comp_beside.Statement.{statement}
 use Rattle.comparison.proofs.comparing.comp_beside.Tie as tie
 
-is-unknown-requires : tie.Need-is-unknown-requires
-is-unknown-requires c κs = search needs
-
-returns : tie.Need-returns
-returns c = search needs
-
-size-requires : tie.Need-size-requires
-size-requires c κs = search needs
-
 returns-2 : tie.Need-returns-2
 returns-2 c =
     let u : unknownb (c .before .before .before .before .args .b) ≡ false = sym (c .before .before .before .is-unknown .ensures) ∙ c .before .before .if1 .left in
@@ -31,4 +22,4 @@ returns-3 c =
 
 pub comp-beside-spec : {M : Type 1} → statement M
 comp-beside-spec =
-    tie.close (tie.spec is-unknown-requires returns size-requires returns-2 returns-3)
+    tie.close (tie.spec (λ c κs. search needs) (λ c. search needs) (λ c κs. search needs) returns-2 returns-3)

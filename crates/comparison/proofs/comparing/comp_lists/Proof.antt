@@ -18,40 +18,16 @@ Inv-loop bytes l m n k i₀ i =
 abbrev μ-loop : tie.MeasureT-loop
 μ-loop bytes l m n k i₀ i = n - i
 
-size-requires : tie.Need-size-requires Inv-loop μ-loop
-size-requires c κs = search needs
-
-size-requires-2 : tie.Need-size-requires-2 Inv-loop μ-loop
-size-requires-2 c κs = search needs
-
 loop-holds : tie.Need-loop-holds Inv-loop μ-loop
 loop-holds c = (omega arith, c .before .size .ensures .1, c .size2 .ensures .1, c .before .size .ensures .0, c .size2 .ensures .0, refl)
 
 returns : tie.Need-returns Inv-loop μ-loop
 returns c = longer (meaningL (c .before .before .before .before .before .before .args .bytes .now) (c .before .before .before .before .before .before .args .l)) (meaningL (c .before .before .before .before .before .before .args .bytes .now) (c .before .before .before .before .before .before .args .m)) (c .before .before .loop .i) (c .before .before .loop .inv .5) (omega (arith, size-is (c .before .before .before .before .before .before .args .bytes .now) (c .before .before .before .before .before .before .args .l), c .before .before .loop .inv .3)) (omega (arith, size-is (c .before .before .before .before .before .before .args .bytes .now) (c .before .before .before .before .before .before .args .m), c .before .before .loop .inv .4))
 
-get-requires : tie.Need-get-requires Inv-loop μ-loop
-get-requires c κs = search needs
-
-get-requires-2 : tie.Need-get-requires-2 Inv-loop μ-loop
-get-requires-2 c κs = search needs
-
-comp-scalars-requires : tie.Need-comp-scalars-requires Inv-loop μ-loop
-comp-scalars-requires c κs = search needs
-
-goes-on-requires : tie.Need-goes-on-requires Inv-loop μ-loop
-goes-on-requires c κs = search needs
-
 returns-2 : tie.Need-returns-2 Inv-loop μ-loop
 returns-2 c =
     let h = heads-are (c .before .before .before .before .before .before .before .before .before .before .before .args .bytes .now) (c .before .before .before .before .before .before .before .before .before .before .before .args .l) (c .before .before .before .before .before .before .before .before .before .before .before .args .m) (c .before .before .before .before .before .before .before .loop .i) (omega (arith, c .before .before .before .before .before .before .before .loop .inv .3)) (omega (arith, c .before .before .before .before .before .before .before .loop .inv .4)) (c .before .before .before .before .get .ensures) (c .before .before .before .get2 .ensures) (c .before .before .comp-scalars .ensures) in
     h ∙ stop (meaningL (c .before .before .before .before .before .before .before .before .before .before .before .args .bytes .now) (c .before .before .before .before .before .before .before .before .before .before .before .args .l)) (meaningL (c .before .before .before .before .before .before .before .before .before .before .before .args .bytes .now) (c .before .before .before .before .before .before .before .before .before .before .before .args .m)) (c .before .before .before .before .before .before .before .loop .i) (c .before .before .before .before .before .before .before .loop .inv .5) (omega (arith, size-is (c .before .before .before .before .before .before .before .before .before .before .before .args .bytes .now) (c .before .before .before .before .before .before .before .before .before .before .before .args .l), c .before .before .before .before .before .before .before .loop .inv .3)) (omega (arith, size-is (c .before .before .before .before .before .before .before .before .before .before .before .args .bytes .now) (c .before .before .before .before .before .before .before .before .before .before .before .args .m), c .before .before .before .before .before .before .before .loop .inv .4)) (sym (ap goesOn h) ∙ sym (c .before .goes-on .ensures) ∙ not-true _ (c .if2 .taken))
-
-add-i : tie.Need-add-i Inv-loop μ-loop
-add-i c = search needs
-
-loop-less : tie.Need-loop-less Inv-loop μ-loop
-loop-less c = search needs
 
 loop-again : tie.Need-loop-again Inv-loop μ-loop
 loop-again c =
@@ -76,17 +52,12 @@ comp-lists-spec =
     (tie.spec
     Inv-loop
     μ-loop
-    size-requires
-    size-requires-2
+    (λ c κs. search needs) (λ c κs. search needs)
     loop-holds
     returns
-    get-requires
-    get-requires-2
-    comp-scalars-requires
-    goes-on-requires
+    (λ c κs. search needs) (λ c κs. search needs) (λ c κs. search needs) (λ c κs. search needs)
     returns-2
-    add-i
-    loop-less
+    (λ c. search needs) (λ c. search needs)
     loop-again
     returns-3
     returns-4)

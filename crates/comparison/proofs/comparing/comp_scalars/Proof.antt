@@ -4,42 +4,6 @@ use borrow.Author.Needs.{needs}
 use Rattle.comparison.proofs.comparing.comp_scalars.Statement.{statement}
 use Rattle.comparison.proofs.comparing.comp_scalars.Tie as tie
 
-enum-told : tie.Need-enum-told
-enum-told c = search needs
-
-enum-told-2 : tie.Need-enum-told-2
-enum-told-2 c = search needs
-
-comp-other-requires : tie.Need-comp-other-requires
-comp-other-requires c κs = search needs
-
-enum-known-a : tie.Need-enum-known-a
-enum-known-a c = search needs
-
-thousandths-requires : tie.Need-thousandths-requires
-thousandths-requires c κs = search needs
-
-comp-number-requires : tie.Need-comp-number-requires
-comp-number-requires c κs = search needs
-
-enum-known-a-2 : tie.Need-enum-known-a-2
-enum-known-a-2 c = search needs
-
-wide-of-requires : tie.Need-wide-of-requires
-wide-of-requires c κs = search needs
-
-comp-number-requires-2 : tie.Need-comp-number-requires-2
-comp-number-requires-2 c κs = search needs
-
-enum-known-a-3 : tie.Need-enum-known-a-3
-enum-known-a-3 c = search needs
-
-comp-text-requires : tie.Need-comp-text-requires
-comp-text-requires c κs = search needs
-
-returns : tie.Need-returns
-returns c = search needs
-
 returns-2 : tie.Need-returns-2
 returns-2 c = truth-left (c .before .before .before .before .args .bytes .now) (c .before .before .before .before .args .b) (c .before .enum-told2 .given .1) (c .comp-other .ensures)
 
@@ -56,18 +20,8 @@ pub comp-scalars-spec : {M : Type 1} → statement M
 comp-scalars-spec =
     tie.close
     (tie.spec
-    enum-told
-    enum-told-2
-    comp-other-requires
-    enum-known-a
-    thousandths-requires
-    comp-number-requires
-    enum-known-a-2
-    wide-of-requires
-    comp-number-requires-2
-    enum-known-a-3
-    comp-text-requires
-    returns
+    (λ c. search needs) (λ c. search needs) (λ c κs. search needs) (λ c. search needs) (λ c κs. search needs) (λ c κs. search needs)
+    (λ c. search needs) (λ c κs. search needs) (λ c κs. search needs) (λ c. search needs) (λ c κs. search needs) (λ c. search needs)
     returns-2
     returns-3
     returns-4

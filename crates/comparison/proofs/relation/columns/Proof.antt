@@ -5,21 +5,6 @@ use borrow.Author.Needs.{needs}
 use Rattle.comparison.proofs.relation.columns.Statement.{statement}
 use Rattle.comparison.proofs.relation.columns.Tie as tie
 
-enum-told : tie.Need-enum-told
-enum-told c = search needs
-
-enum-told-2 : tie.Need-enum-told-2
-enum-told-2 c = search needs
-
-enum-told-3 : tie.Need-enum-told-3
-enum-told-3 c = search needs
-
-enum-told-4 : tie.Need-enum-told-4
-enum-told-4 c = search needs
-
-enum-told-5 : tie.Need-enum-told-5
-enum-told-5 c = search needs
-
 returns : tie.Need-returns
 returns c = let a = c .before .before .args in sym (ap (columnsC (a .up) (a .down) (a .level)) (c .enum-told .given .1))
 
@@ -29,23 +14,12 @@ returns-2 c = let a = c .before .before .args in sym (ap (columnsC (a .up) (a .d
 returns-3 : tie.Need-returns-3
 returns-3 c = let a = c .before .before .args in sym (ap (columnsC (a .up) (a .down) (a .level)) (c .enum-told3 .given .1))
 
-returns-4 : tie.Need-returns-4
-returns-4 c = search needs
-
-returns-5 : tie.Need-returns-5
-returns-5 c = search needs
-
 pub columns-spec : {M : Type 1} → statement M
 columns-spec =
     tie.close
     (tie.spec
-    enum-told
-    enum-told-2
-    enum-told-3
-    enum-told-4
-    enum-told-5
+    (λ c. search needs) (λ c. search needs) (λ c. search needs) (λ c. search needs) (λ c. search needs)
     returns
     returns-2
     returns-3
-    returns-4
-    returns-5)
+    (λ c. search needs) (λ c. search needs))

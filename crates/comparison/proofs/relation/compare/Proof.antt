@@ -9,19 +9,10 @@ use borrow.Author.Needs.{needs}
 use Rattle.comparison.proofs.relation.compare.Statement.{statement}
 use Rattle.comparison.proofs.relation.compare.Tie as tie
 
-comp-requires : tie.Need-comp-requires
-comp-requires c κs = search needs
-
-row-requires : tie.Need-row-requires
-row-requires c κs = search needs
-
-single-requires : tie.Need-single-requires
-single-requires c κs = search needs
-
 returns : tie.Need-returns
 returns c = let a = c .before .before .before .before .args in let bs = a .bytes .now in
     means bs (section-11.compare (relation (a .o))) (a .a ∷ a .b ∷ []) (c .single .result) tt
     (single-is bs (c .single .result) (c .single .ensures) ∙ compare-comes bs (a .o) (a .a) (a .b) (c .before .row .ensures) (c .before .before .comp .ensures))
 
 pub compare-spec : {M : Type 1} → statement M
-compare-spec = tie.close (tie.spec comp-requires row-requires single-requires returns)
+compare-spec = tie.close (tie.spec (λ c κs. search needs) (λ c κs. search needs) (λ c κs. search needs) returns)

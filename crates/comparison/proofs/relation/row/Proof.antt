@@ -6,42 +6,6 @@ use borrow.Author.Needs.{needs}
 use Rattle.comparison.proofs.relation.row.Statement.{statement}
 use Rattle.comparison.proofs.relation.row.Tie as tie
 
-enum-told : tie.Need-enum-told
-enum-told c = search needs
-
-columns-requires : tie.Need-columns-requires
-columns-requires c κs = search needs
-
-enum-told-2 : tie.Need-enum-told-2
-enum-told-2 c = search needs
-
-columns-requires-2 : tie.Need-columns-requires-2
-columns-requires-2 c κs = search needs
-
-enum-told-3 : tie.Need-enum-told-3
-enum-told-3 c = search needs
-
-columns-requires-3 : tie.Need-columns-requires-3
-columns-requires-3 c κs = search needs
-
-enum-told-4 : tie.Need-enum-told-4
-enum-told-4 c = search needs
-
-columns-requires-4 : tie.Need-columns-requires-4
-columns-requires-4 c κs = search needs
-
-enum-told-5 : tie.Need-enum-told-5
-enum-told-5 c = search needs
-
-columns-requires-5 : tie.Need-columns-requires-5
-columns-requires-5 c κs = search needs
-
-enum-told-6 : tie.Need-enum-told-6
-enum-told-6 c = search needs
-
-columns-requires-6 : tie.Need-columns-requires-6
-columns-requires-6 c κs = search needs
-
 returns : tie.Need-returns
 returns c = c .columns .ensures ∙ sym (ap (λ (o : Comparison). rowC o (c .before .before .before .args .s)) (c .before .enum-told .given .1))
 
@@ -64,18 +28,8 @@ pub row-spec : {M : Type 1} → statement M
 row-spec =
     tie.close
     (tie.spec
-    enum-told
-    columns-requires
-    enum-told-2
-    columns-requires-2
-    enum-told-3
-    columns-requires-3
-    enum-told-4
-    columns-requires-4
-    enum-told-5
-    columns-requires-5
-    enum-told-6
-    columns-requires-6
+    (λ c. search needs) (λ c κs. search needs) (λ c. search needs) (λ c κs. search needs) (λ c. search needs) (λ c κs. search needs)
+    (λ c. search needs) (λ c κs. search needs) (λ c. search needs) (λ c κs. search needs) (λ c. search needs) (λ c κs. search needs)
     returns
     returns-2
     returns-3

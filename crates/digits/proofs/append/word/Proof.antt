@@ -22,21 +22,9 @@ loop-holds : tie.Need-loop-holds Inv-loop μ-loop
 loop-holds c = (search needs, append-nothing _ _)
 
 -- src/append.rt:23:18
-shared-slice-read-byte : tie.Need-shared-slice-read-byte Inv-loop μ-loop
-shared-slice-read-byte c = search needs
-
 -- src/append.rt:23:9
-byte-requires : tie.Need-byte-requires Inv-loop μ-loop
-byte-requires c κs = search needs
-
 -- src/append.rt:24:9
-add-i : tie.Need-add-i Inv-loop μ-loop
-add-i c = search needs
-
 -- src/append.rt:22:5
-loop-less : tie.Need-loop-less Inv-loop μ-loop
-loop-less c = search needs
-
 -- src/append.rt:22:5
 loop-again : tie.Need-loop-again Inv-loop μ-loop
 loop-again c =
@@ -46,9 +34,6 @@ loop-again c =
     (search needs, rw (add-one, take-suc w (l .i) 0) (append-then (l .inv .1) (c .before .before .byte .ensures)))
 
 -- src/append.rt:17:1
-same-length : tie.Need-same-length Inv-loop μ-loop
-same-length c = search needs
-
 -- src/append.rt:17:1
 returns : tie.Need-returns Inv-loop μ-loop
 returns c =
@@ -62,10 +47,7 @@ word-spec =
     Inv-loop
     μ-loop
     loop-holds
-    shared-slice-read-byte
-    byte-requires
-    add-i
-    loop-less
+    (λ c. search needs) (λ c κs. search needs) (λ c. search needs) (λ c. search needs)
     loop-again
-    same-length
+    (λ c. search needs)
     returns)

@@ -6,18 +6,6 @@ use borrow.Author.Needs.{needs}
 use Rattle.digits.proofs.signed.integer.Statement.{statement}
 use Rattle.digits.proofs.signed.integer.Tie as tie
 
-sign-requires : tie.Need-sign-requires
-sign-requires c κs = search needs
-
-magnitude-requires : tie.Need-magnitude-requires
-magnitude-requires c κs = search needs
-
-number-requires : tie.Need-number-requires
-number-requires c κs = search needs
-
-same-length : tie.Need-same-length
-same-length c = search needs
-
 returns : tie.Need-returns
 returns c =
     let z = c .before .before .before .before .before .before .before .before .before .before .args .n .z in
@@ -25,4 +13,4 @@ returns c =
 
 pub integer-spec : {M : Type 1} → statement M
 integer-spec =
-    tie.close (tie.spec sign-requires magnitude-requires number-requires same-length returns)
+    tie.close (tie.spec (λ c κs. search needs) (λ c κs. search needs) (λ c κs. search needs) (λ c. search needs) returns)

@@ -23,9 +23,6 @@ turned-fits c =
     let b = c .before .before .wide-of .ensures .1 in
     rw (turned c) (fits (pos (natAbs z)) b)
 
-wide-of-requires : tie.Need-wide-of-requires
-wide-of-requires c κs = search needs
-
 sub-result : tie.Need-sub-result
 sub-result c =
     let z = c .before .before .wide-of .result .z in
@@ -60,4 +57,4 @@ returns-2 c =
 
 pub magnitude-spec : {M : Type 1} → statement M
 magnitude-spec =
-    tie.close (tie.spec wide-of-requires sub-result cast-result returns cast-result-2 returns-2)
+    tie.close (tie.spec (λ c κs. search needs) sub-result cast-result returns cast-result-2 returns-2)

@@ -6,18 +6,6 @@ use borrow.Author.Needs.{needs}
 use Rattle.digits.proofs.signed.real.Statement.{statement}
 use Rattle.digits.proofs.signed.real.Tie as tie
 
-sign-requires : tie.Need-sign-requires
-sign-requires c κs = search needs
-
-magnitude-requires : tie.Need-magnitude-requires
-magnitude-requires c κs = search needs
-
-thousandths-requires : tie.Need-thousandths-requires
-thousandths-requires c κs = search needs
-
-same-length : tie.Need-same-length
-same-length c = search needs
-
 returns : tie.Need-returns
 returns c =
     let z = c .before .before .before .before .before .before .before .before .before .before .args .n .z in
@@ -25,4 +13,4 @@ returns c =
 
 pub real-spec : {M : Type 1} → statement M
 real-spec =
-    tie.close (tie.spec sign-requires magnitude-requires thousandths-requires same-length returns)
+    tie.close (tie.spec (λ c κs. search needs) (λ c κs. search needs) (λ c κs. search needs) (λ c. search needs) returns)

@@ -10,15 +10,6 @@ use borrow.Author.Needs.{needs}
 use Rattle.digits.proofs.signed.sign.Statement.{statement}
 use Rattle.digits.proofs.signed.sign.Tie as tie
 
-wide-of-requires : tie.Need-wide-of-requires
-wide-of-requires c κs = search needs
-
-byte-requires : tie.Need-byte-requires
-byte-requires c κs = search needs
-
-same-length : tie.Need-same-length
-same-length c = search needs
-
 returns : tie.Need-returns
 returns c =
     let w = c .before .before .before .before .before .before .wide-of in
@@ -34,4 +25,4 @@ returns-2 c =
     appends-as (ap sign-of (sym (w .ensures .0)) ∙ e) (append-nothing _ _)
 
 pub sign-spec : {M : Type 1} → statement M
-sign-spec = tie.close (tie.spec wide-of-requires byte-requires same-length returns returns-2)
+sign-spec = tie.close (tie.spec (λ c κs. search needs) (λ c κs. search needs) (λ c. search needs) returns returns-2)

@@ -7,14 +7,8 @@ use borrow.Author.Needs.{needs}
 use Rattle.evaluator.proofs.items.cell.Statement.{statement}
 use Rattle.evaluator.proofs.items.cell.Tie as tie
 
-byte-requires : tie.Need-byte-requires
-byte-requires c κs = search needs
-
-scalar-requires : tie.Need-scalar-requires
-scalar-requires c κs = search needs
-
 returns : tie.Need-returns
 returns c = let a = c .before .before .before .before .args in c .scalar .ensures ∙ ap (λ (k : ℕ). scalarAt k (getD (a .cells .now) (a .p) 0)) (c .before .byte .ensures)
 
 pub cell-spec : {M : Type 1} → statement M
-cell-spec = tie.close (tie.spec byte-requires scalar-requires returns)
+cell-spec = tie.close (tie.spec (λ c κs. search needs) (λ c κs. search needs) returns)

@@ -12,26 +12,8 @@ Inv-loop tags cells p n l₀ k₀ l k = (k ≤ n) × (n ≤ 16) × (p ≤ 200000
 abbrev μ-loop : tie.MeasureT-loop
 μ-loop tags cells p n l₀ k₀ l k = k
 
-blank-requires : tie.Need-blank-requires Inv-loop μ-loop
-blank-requires c κs = search needs
-
 loop-holds : tie.Need-loop-holds Inv-loop μ-loop
 loop-holds c = let a = c .before .before .before .args in (omega arith, omega arith, omega arith, filled-none (a .tags .now) (a .cells .now) (a .p) (a .n) (c .blank .result) (c .blank .ensures))
-
-sub-k : tie.Need-sub-k Inv-loop μ-loop
-sub-k c = search needs
-
-add-cell : tie.Need-add-cell Inv-loop μ-loop
-add-cell c = search needs
-
-cell-requires : tie.Need-cell-requires Inv-loop μ-loop
-cell-requires c κs = search needs
-
-put-at-requires : tie.Need-put-at-requires Inv-loop μ-loop
-put-at-requires c κs = search needs
-
-loop-less : tie.Need-loop-less Inv-loop μ-loop
-loop-less c = search needs
 
 loop-again : tie.Need-loop-again Inv-loop μ-loop
 loop-again c =
@@ -48,12 +30,8 @@ elements-spec =
     (tie.spec
     Inv-loop
     μ-loop
-    blank-requires
+    (λ c κs. search needs)
     loop-holds
-    sub-k
-    add-cell
-    cell-requires
-    put-at-requires
-    loop-less
+    (λ c. search needs) (λ c. search needs) (λ c κs. search needs) (λ c κs. search needs) (λ c. search needs)
     loop-again
     returns)

@@ -15,27 +15,6 @@ use borrow.Author.Needs.{needs, sfits-of}
 use Rattle.evaluator.proofs.items.scalar.Statement.{statement}
 use Rattle.evaluator.proofs.items.scalar.Tie as tie
 
-number-requires : tie.Need-number-requires
-number-requires c κs = search needs
-
-literal-requires : tie.Need-literal-requires
-literal-requires c κs = search needs
-
-integer-requires : tie.Need-integer-requires
-integer-requires c κs = search needs
-
-literal-requires-2 : tie.Need-literal-requires-2
-literal-requires-2 c κs = search needs
-
-real-requires : tie.Need-real-requires
-real-requires c κs = search needs
-
-number-requires-2 : tie.Need-number-requires-2
-number-requires-2 c κs = search needs
-
-handle-requires : tie.Need-handle-requires
-handle-requires c κs = search needs
-
 returns : tie.Need-returns
 returns c = let a = c .before .before .before .args in ap (λ (n : ℕ). Truth (eqb n 1)) (c .number .ensures) ∙ ap (λ (k : ℕ). scalarAt k (getD (a .col .now) (a .p) 0)) (sym (c .before .match .keys1))
 
@@ -63,13 +42,8 @@ pub scalar-spec : {M : Type 1} → statement M
 scalar-spec =
     tie.close
     (tie.spec
-    number-requires
-    literal-requires
-    integer-requires
-    literal-requires-2
-    real-requires
-    number-requires-2
-    handle-requires
+    (λ c κs. search needs) (λ c κs. search needs) (λ c κs. search needs) (λ c κs. search needs) (λ c κs. search needs)
+    (λ c κs. search needs) (λ c κs. search needs)
     returns
     returns-2
     returns-3

@@ -6,20 +6,8 @@ use borrow.Author.Needs.{needs}
 use Rattle.evaluator.proofs.leaves.atom.Statement.{statement}
 use Rattle.evaluator.proofs.leaves.atom.Tie as tie
 
-find-requires : tie.Need-find-requires
-find-requires c κs = search needs
-
-value-requires : tie.Need-value-requires
-value-requires c κs = search needs
-
 returns : tie.Need-returns
 returns c = let a = c .before .before .before .before .before .before .before .args in atom-item (a .bytes .now) (a .names .now) (a .tags .now) (a .cells .now) (a .h) (c .before .before .find .result) (c .value .result) (c .before .before .find .ensures) (c .before .if1 .taken) (c .value .ensures)
-
-handle-requires : tie.Need-handle-requires
-handle-requires c κs = search needs
-
-single-requires : tie.Need-single-requires
-single-requires c κs = search needs
 
 returns-2 : tie.Need-returns-2
 returns-2 c =
@@ -29,4 +17,4 @@ returns-2 c =
 pub atom-spec : {M : Type 1} → statement M
 atom-spec =
     tie.close
-    (tie.spec find-requires value-requires returns handle-requires single-requires returns-2)
+    (tie.spec (λ c κs. search needs) (λ c κs. search needs) returns (λ c κs. search needs) (λ c κs. search needs) returns-2)

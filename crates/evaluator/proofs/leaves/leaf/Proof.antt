@@ -7,22 +7,10 @@ use borrow.Author.Needs.{needs}
 use Rattle.evaluator.proofs.leaves.leaf.Statement.{statement}
 use Rattle.evaluator.proofs.leaves.leaf.Tie as tie
 
-number-requires : tie.Need-number-requires
-number-requires c κs = search needs
-
-atom-requires : tie.Need-atom-requires
-atom-requires c κs = search needs
-
 returns : tie.Need-returns
 returns c =
     let a = c .before .before .before .before .before .before .before .before .args in
     leaf-atom (a .bytes .now) (a .names .now) (a .tags .now) (a .cells .now) (a .kind) (getD (a .loads .now) (a .p) 0) (c .atom .result) (c .before .before .if1 .taken) (subst (λ (h : ℕ). AtomOf (a .bytes .now) (a .names .now) (a .tags .now) (a .cells .now) h (c .atom .result)) (c .before .number .ensures) (c .atom .ensures))
-
-scalar-requires : tie.Need-scalar-requires
-scalar-requires c κs = search needs
-
-single-requires : tie.Need-single-requires
-single-requires c κs = search needs
 
 returns-2 : tie.Need-returns-2
 returns-2 c =
@@ -32,4 +20,4 @@ returns-2 c =
 pub leaf-spec : {M : Type 1} → statement M
 leaf-spec =
     tie.close
-    (tie.spec number-requires atom-requires returns scalar-requires single-requires returns-2)
+    (tie.spec (λ c κs. search needs) (λ c κs. search needs) returns (λ c κs. search needs) (λ c κs. search needs) returns-2)

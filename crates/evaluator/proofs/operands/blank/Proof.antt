@@ -4,11 +4,8 @@ use borrow.Author.Needs.{needs}
 use Rattle.evaluator.proofs.operands.blank.Statement.{statement}
 use Rattle.evaluator.proofs.operands.blank.Tie as tie
 
-empty-requires : tie.Need-empty-requires
-empty-requires c κs = search needs
-
 returns : tie.Need-returns
 returns c = (search needs, search (needs, unmap))
 
 pub blank-spec : {M : Type 1} → statement M
-blank-spec = tie.close (tie.spec empty-requires returns)
+blank-spec = tie.close (tie.spec (λ c κs. search needs) returns)

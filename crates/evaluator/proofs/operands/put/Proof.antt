@@ -6,12 +6,6 @@ use borrow.Author.Needs.{needs}
 use Rattle.evaluator.proofs.operands.put.Statement.{statement}
 use Rattle.evaluator.proofs.operands.put.Tie as tie
 
-scalar-of-requires : tie.Need-scalar-of-requires
-scalar-of-requires c κs = search needs
-
-put-at-requires : tie.Need-put-at-requires
-put-at-requires c κs = search needs
-
 returns : tie.Need-returns
 returns c =
     let a = c .before .before .before .before .before .args in
@@ -23,4 +17,4 @@ returns c =
     }
 
 pub put-spec : {M : Type 1} → statement M
-put-spec = tie.close (tie.spec scalar-of-requires put-at-requires returns)
+put-spec = tie.close (tie.spec (λ c κs. search needs) (λ c κs. search needs) returns)

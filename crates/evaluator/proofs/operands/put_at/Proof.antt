@@ -4,17 +4,8 @@ use borrow.Author.Needs.{needs}
 use Rattle.evaluator.proofs.operands.put_at.Statement.{statement}
 use Rattle.evaluator.proofs.operands.put_at.Tie as tie
 
-mul-items : tie.Need-mul-items
-mul-items c = search needs
-
-array-set-from-items : tie.Need-array-set-from-items
-array-set-from-items c = search needs
-
-returns : tie.Need-returns
-returns c = search needs
-
 returns-2 : tie.Need-returns-2
 returns-2 c = λ h. absurd (omega arith)
 
 pub put-at-spec : {M : Type 1} → statement M
-put-at-spec = tie.close (tie.spec mul-items array-set-from-items returns returns-2)
+put-at-spec = tie.close (tie.spec (λ c. search needs) (λ c. search needs) (λ c. search needs) returns-2)

@@ -5,12 +5,6 @@ use borrow.Author.Needs.{needs}
 use Rattle.evaluator.proofs.texts.inside.Statement.{statement}
 use Rattle.evaluator.proofs.texts.inside.Tie as tie
 
-add-if1 : tie.Need-add-if1
-add-if1 c = search needs
-
-returns : tie.Need-returns
-returns c = search needs
-
 returns-2 : tie.Need-returns-2
 returns-2 c = λ e. absurd (no-clash (cc))
 
@@ -21,4 +15,4 @@ returns-4 : tie.Need-returns-4
 returns-4 c = λ e. spelt-other (c .before .if2 .left) (c .if3 .left)
 
 pub inside-spec : {M : Type 1} → statement M
-inside-spec = tie.close (tie.spec add-if1 returns returns-2 returns-3 returns-4)
+inside-spec = tie.close (tie.spec (λ c. search needs) (λ c. search needs) returns-2 returns-3 returns-4)

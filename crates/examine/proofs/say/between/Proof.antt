@@ -10,37 +10,11 @@ Inv-loop kinds i from to k₀ k = Unit {0}
 abbrev μ-loop : tie.MeasureT-loop
 μ-loop kinds i from to k₀ k = to - k
 
-loop-holds : tie.Need-loop-holds Inv-loop μ-loop
-loop-holds c = search needs
-
-is-offered-requires : tie.Need-is-offered-requires Inv-loop μ-loop
-is-offered-requires c κs = search needs
-
-spelt-requires : tie.Need-spelt-requires Inv-loop μ-loop
-spelt-requires c κs = search needs
-
-add-k : tie.Need-add-k Inv-loop μ-loop
-add-k c = search needs
-
-loop-less : tie.Need-loop-less Inv-loop μ-loop
-loop-less c = search needs
-
-loop-again : tie.Need-loop-again Inv-loop μ-loop
-loop-again c = search needs
-
-returns : tie.Need-returns Inv-loop μ-loop
-returns c = search needs
-
 pub between-spec : {M : Type 1} → statement M
 between-spec =
     tie.close
     (tie.spec
     Inv-loop
     μ-loop
-    loop-holds
-    is-offered-requires
-    spelt-requires
-    add-k
-    loop-less
-    loop-again
-    returns)
+    (λ c. search needs) (λ c κs. search needs) (λ c κs. search needs) (λ c. search needs) (λ c. search needs) (λ c. search needs)
+    (λ c. search needs))

@@ -8,20 +8,11 @@ use borrow.Author.Needs.{needs}
 use Rattle.explain.proofs.cause.large_integer.Statement.{statement}
 use Rattle.explain.proofs.cause.large_integer.Tie as tie
 
-integer-requires : tie.Need-integer-requires
-integer-requires c κs = search needs
-
-add-if1 : tie.Need-add-if1
-add-if1 c = search needs
-
 returns : tie.Need-returns
 returns c = λ _. integer-past (cells (now (c .before .before .before .args .text)) (c .before .before .before .args .at) (c .before .before .before .args .n)) (c .before .integer .result) (c .before .integer .ensures) (inl (c .if1 .taken))
-
-sub-result : tie.Need-sub-result
-sub-result c = search needs
 
 returns-2 : tie.Need-returns-2
 returns-2 c = λ e. integer-past (cells (now (c .before .before .before .args .text)) (c .before .before .before .args .at) (c .before .before .before .args .n)) (c .before .integer .result) (c .before .integer .ensures) (inr (ltb-true _ _ e))
 
 pub large-integer-spec : {M : Type 1} → statement M
-large-integer-spec = tie.close (tie.spec integer-requires add-if1 returns sub-result returns-2)
+large-integer-spec = tie.close (tie.spec (λ c κs. search needs) (λ c. search needs) returns (λ c. search needs) returns-2)

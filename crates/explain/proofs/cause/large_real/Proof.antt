@@ -19,18 +19,6 @@ use Rattle.explain.proofs.cause.large_real.Tie as tie
 returns : tie.Need-returns
 returns c = λ e. contra e
 
-byte-requires : tie.Need-byte-requires
-byte-requires c κs = search needs
-
-add-large-unsigned : tie.Need-add-large-unsigned
-add-large-unsigned c = search needs
-
-sub-large-unsigned : tie.Need-sub-large-unsigned
-sub-large-unsigned c = search needs
-
-large-unsigned-requires : tie.Need-large-unsigned-requires
-large-unsigned-requires c κs = search needs
-
 returns-2 : tie.Need-returns-2
 returns-2 c = λ e.
     let s = c .before .before .before .before .before .args in
@@ -38,9 +26,6 @@ returns-2 c = λ e.
     let h : 0 < s .n = omega (arith, c .before .before .before .if1 .left) in
     subst (λ (w : List ℕ). real-limit < natAbs (thousandths w)) (sym (cells-more t (s .at) (s .n) h))
     (negative-past (getD t (s .at) 0) (cells t (s .at + 1) (s .n - 1)) (sym (c .before .before .byte .ensures) ∙ c .before .if2 .taken) (c .large-unsigned .ensures e))
-
-large-unsigned-requires-2 : tie.Need-large-unsigned-requires-2
-large-unsigned-requires-2 c κs = search needs
 
 returns-3 : tie.Need-returns-3
 returns-3 c = λ e.
@@ -52,10 +37,7 @@ large-real-spec =
     tie.close
     (tie.spec
     returns
-    byte-requires
-    add-large-unsigned
-    sub-large-unsigned
-    large-unsigned-requires
+    (λ c κs. search needs) (λ c. search needs) (λ c. search needs) (λ c κs. search needs)
     returns-2
-    large-unsigned-requires-2
+    (λ c κs. search needs)
     returns-3)

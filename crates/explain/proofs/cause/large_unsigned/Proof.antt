@@ -7,14 +7,8 @@ use borrow.Author.Needs.{needs}
 use Rattle.explain.proofs.cause.large_unsigned.Statement.{statement}
 use Rattle.explain.proofs.cause.large_unsigned.Tie as tie
 
-add-result : tie.Need-add-result
-add-result c = search needs
-
-float-requires : tie.Need-float-requires
-float-requires c κs = search needs
-
 returns : tie.Need-returns
 returns c = λ e. subst (λ (x : ℕ). above-all < x) (c .float .ensures) (ltb-true _ _ e)
 
 pub large-unsigned-spec : {M : Type 1} → statement M
-large-unsigned-spec = tie.close (tie.spec add-result float-requires returns)
+large-unsigned-spec = tie.close (tie.spec (λ c. search needs) (λ c κs. search needs) returns)

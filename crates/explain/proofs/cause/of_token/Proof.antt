@@ -8,12 +8,6 @@ use borrow.Author.Needs.{needs}
 use Rattle.explain.proofs.cause.of_token.Statement.{statement}
 use Rattle.explain.proofs.cause.of_token.Tie as tie
 
-fits-requires : tie.Need-fits-requires
-fits-requires c κs = search needs
-
-returns : tie.Need-returns
-returns c = search needs
-
 large-integer-requires : tie.Need-large-integer-requires
 large-integer-requires c κs = c .before .before .fits2 .ensures .0 (not-false (c .before .before .fits2 .result) (c .before .if1 .left))
 
@@ -21,9 +15,6 @@ returns-2 : tie.Need-returns-2
 returns-2 c =
     let s = c .before .before .before .before .before .before .args in
     by-cells (now (s .text)) (s .k) (s .at) (s .n) Integer (c .before .before .before .before .fits2 .ensures .0 (not-false (c .before .before .before .before .fits2 .result) (c .before .before .before .if1 .left))) (c .before .before .if2 .taken, c .before .large-integer .ensures (c .if3 .taken))
-
-returns-3 : tie.Need-returns-3
-returns-3 c = search needs
 
 behind-requires : tie.Need-behind-requires
 behind-requires c κs = c .before .before .before .fits2 .ensures .0 (not-false (c .before .before .before .fits2 .result) (c .before .before .if1 .left))
@@ -41,12 +32,6 @@ returns-5 c =
     let s = c .before .before .before .before .before .before .before .before .before .args in
     by-cells (now (s .text)) (s .k) (s .at) (s .n) Real (c .before .before .before .before .before .before .before .fits2 .ensures .0 (not-false (c .before .before .before .before .before .before .before .fits2 .result) (c .before .before .before .before .before .before .if1 .left))) (c .before .before .before .before .if4 .taken, c .before .large-real .ensures (c .if6 .taken))
 
-returns-6 : tie.Need-returns-6
-returns-6 c = search needs
-
-returns-7 : tie.Need-returns-7
-returns-7 c = search needs
-
 inside-requires : tie.Need-inside-requires
 inside-requires c κs = c .before .before .before .before .fits2 .ensures .0 (not-false (c .before .before .before .before .fits2 .result) (c .before .before .before .if1 .left))
 
@@ -55,24 +40,19 @@ returns-8 c =
     let s = c .before .before .before .before .before .before .before .before .before .args in
     by-cells (now (s .text)) (s .k) (s .at) (s .n) Text (c .before .before .before .before .before .before .before .fits2 .ensures .0 (not-false (c .before .before .before .before .before .before .before .fits2 .result) (c .before .before .before .before .before .before .if1 .left))) (c .before .before .before .if7 .left, c .before .before .before .before .before .if2 .left, c .before .before .before .before .if4 .left, text-past (now (s .text)) (s .at) (s .n) _ _ (c .before .before .inside .ensures .0) (c .if8 .taken))
 
-returns-9 : tie.Need-returns-9
-returns-9 c = search needs
-
 pub of-token-spec : {M : Type 1} → statement M
 of-token-spec =
     tie.close
     (tie.spec
-    fits-requires
-    returns
+    (λ c κs. search needs) (λ c. search needs)
     large-integer-requires
     returns-2
-    returns-3
+    (λ c. search needs)
     behind-requires
     returns-4
     large-real-requires
     returns-5
-    returns-6
-    returns-7
+    (λ c. search needs) (λ c. search needs)
     inside-requires
     returns-8
-    returns-9)
+    (λ c. search needs))

@@ -5,17 +5,11 @@ use borrow.Author.Needs.{needs}
 use Rattle.explain.proofs.offer.begin.Statement.{statement}
 use Rattle.explain.proofs.offer.begin.Tie as tie
 
-returns : tie.Need-returns
-returns c = search needs
-
 slice-aggregate-begins : tie.Need-slice-aggregate-begins
 slice-aggregate-begins c = simp length-take (omega arith)
-
-begins-requires : tie.Need-begins-requires
-begins-requires c κs = search needs
 
 returns-2 : tie.Need-returns-2
 returns-2 c = λ h l. c .begins .ensures (simp length-take (omega arith))
 
 pub begin-spec : {M : Type 1} → statement M
-begin-spec = tie.close (tie.spec returns slice-aggregate-begins begins-requires returns-2)
+begin-spec = tie.close (tie.spec (λ c. search needs) slice-aggregate-begins (λ c κs. search needs) returns-2)

@@ -12,30 +12,6 @@ use borrow.Author.Needs.{needs}
 use Rattle.explain.proofs.offer.may_stand.Statement.{statement}
 use Rattle.explain.proofs.offer.may_stand.Tie as tie
 
-returns : tie.Need-returns
-returns c = search needs
-
-returns-2 : tie.Need-returns-2
-returns-2 c = search needs
-
-slice-aggregate-copy : tie.Need-slice-aggregate-copy
-slice-aggregate-copy c = search needs
-
-copy-requires : tie.Need-copy-requires
-copy-requires c κs = search needs
-
-array-write-tried : tie.Need-array-write-tried
-array-write-tried c = search needs
-
-slice-aggregate-begin : tie.Need-slice-aggregate-begin
-slice-aggregate-begin c = search needs
-
-add-begin : tie.Need-add-begin
-add-begin c = search needs
-
-begin-requires : tie.Need-begin-requires
-begin-requires c κs = search needs
-
 returns-3 : tie.Need-returns-3
 returns-3 c = λ h l.
     let s = c .before .before .before .before .before .before .before .before .args in
@@ -49,12 +25,6 @@ pub may-stand-spec : {M : Type 1} → statement M
 may-stand-spec =
     tie.close
     (tie.spec
-    returns
-    returns-2
-    slice-aggregate-copy
-    copy-requires
-    array-write-tried
-    slice-aggregate-begin
-    add-begin
-    begin-requires
+    (λ c. search needs) (λ c. search needs) (λ c. search needs) (λ c κs. search needs) (λ c. search needs) (λ c. search needs)
+    (λ c. search needs) (λ c κs. search needs)
     returns-3)

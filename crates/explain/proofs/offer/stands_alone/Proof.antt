@@ -5,17 +5,11 @@ use borrow.Author.Needs.{needs}
 use Rattle.explain.proofs.offer.stands_alone.Statement.{statement}
 use Rattle.explain.proofs.offer.stands_alone.Tie as tie
 
-may-stand-requires : tie.Need-may-stand-requires
-may-stand-requires c κs = search needs
-
 returns : tie.Need-returns
 returns c = λ h l e. contra e
-
-may-stand-requires-2 : tie.Need-may-stand-requires-2
-may-stand-requires-2 c κs = search needs
 
 returns-2 : tie.Need-returns-2
 returns-2 c = λ h l e. told (c .may-stand2 .result) (c .may-stand2 .ensures h l) e
 
 pub stands-alone-spec : {M : Type 1} → statement M
-stands-alone-spec = tie.close (tie.spec may-stand-requires returns may-stand-requires-2 returns-2)
+stands-alone-spec = tie.close (tie.spec (λ c κs. search needs) returns (λ c κs. search needs) returns-2)

@@ -19,20 +19,8 @@ loop-holds c = (omega arith, below-none _)
 returns : tie.Need-returns Inv-loop μ-loop
 returns c = record { few = omega arith; earlier = c .before .before .loop .inv .1; not-later = λ h l. absurd (omega arith) }
 
-mul-if2 : tie.Need-mul-if2 Inv-loop μ-loop
-mul-if2 c = search needs
-
-shared-slice-read-if2 : tie.Need-shared-slice-read-if2 Inv-loop μ-loop
-shared-slice-read-if2 c = search needs
-
 returns-2 : tie.Need-returns-2 Inv-loop μ-loop
 returns-2 c = record { few = omega arith; earlier = c .before .before .before .before .loop .inv .1; not-later = λ h l. c .if2 .taken }
-
-add-i : tie.Need-add-i Inv-loop μ-loop
-add-i c = omega arith
-
-loop-less : tie.Need-loop-less Inv-loop μ-loop
-loop-less c = omega arith
 
 loop-again : tie.Need-loop-again Inv-loop μ-loop
 loop-again c = (omega arith, below-more _ _ (c .before .before .before .before .loop .inv .1) (c .if2 .left))
@@ -48,10 +36,8 @@ token-at-spec =
     μ-loop
     loop-holds
     returns
-    mul-if2
-    shared-slice-read-if2
+    (λ c. search needs) (λ c. search needs)
     returns-2
-    add-i
-    loop-less
+    (λ c. omega arith) (λ c. omega arith)
     loop-again
     returns-3)

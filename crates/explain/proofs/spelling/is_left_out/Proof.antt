@@ -8,15 +8,9 @@ use Rattle.explain.proofs.spelling.is_left_out.Tie as tie
 returns : tie.Need-returns
 returns c = left-out-past (c .before .args .k) (c .if1 .taken)
 
-wide-requires : tie.Need-wide-requires
-wide-requires c κs = search needs
-
-array-read-result : tie.Need-array-read-result
-array-read-result c = search needs
-
 returns-2 : tie.Need-returns-2
 unfolding left-out-words left-out-table
 returns-2 c = left-out-is (c .before .before .args .k) (c .wide .result) (c .before .if1 .left) (c .wide .ensures)
 
 pub is-left-out-spec : {M : Type 1} → statement M
-is-left-out-spec = tie.close (tie.spec returns wide-requires array-read-result returns-2)
+is-left-out-spec = tie.close (tie.spec returns (λ c κs. search needs) (λ c. search needs) returns-2)

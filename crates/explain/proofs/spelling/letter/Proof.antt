@@ -8,20 +8,8 @@ use borrow.Author.Needs.{needs}
 use Rattle.explain.proofs.spelling.letter.Statement.{statement}
 use Rattle.explain.proofs.spelling.letter.Tie as tie
 
-size-requires : tie.Need-size-requires
-size-requires c κs = search needs
-
 returns : tie.Need-returns
 returns c = letter-none (c .before .before .args .k) (c .before .before .args .j) (c .before .size .result) (c .before .size .ensures) (c .if1 .taken)
-
-wide-requires : tie.Need-wide-requires
-wide-requires c κs = search needs
-
-mul-result : tie.Need-mul-result
-mul-result c = search needs
-
-add-result : tie.Need-add-result
-add-result c = search needs
 
 add-result-2 : tie.Need-add-result-2
 add-result-2 c = let z = index-fits (c .before .before .before .args .k) (c .wide .result) (c .before .before .before .args .j) (c .before .before .size .result) (c .wide .ensures) (c .before .before .size .ensures) (c .before .if1 .left) in omega arith
@@ -37,11 +25,9 @@ pub letter-spec : {M : Type 1} → statement M
 letter-spec =
     tie.close
     (tie.spec
-    size-requires
+    (λ c κs. search needs)
     returns
-    wide-requires
-    mul-result
-    add-result
+    (λ c κs. search needs) (λ c. search needs) (λ c. search needs)
     add-result-2
     array-read-result
     returns-2)

@@ -8,22 +8,10 @@ use Rattle.explain.proofs.spelling.size.Tie as tie
 returns : tie.Need-returns
 returns c = size-past (c .before .args .k) (c .if1 .taken)
 
-wide-requires : tie.Need-wide-requires
-wide-requires c κs = search needs
-
-mul-wide : tie.Need-mul-wide
-mul-wide c = search needs
-
-array-read-wide : tie.Need-array-read-wide
-array-read-wide c = search needs
-
-wide-requires-2 : tie.Need-wide-requires-2
-wide-requires-2 c κs = search needs
-
 returns-2 : tie.Need-returns-2
 unfolding reserved others spellings spellings-table
 returns-2 c = size-is (c .before .before .before .args .k) (c .before .wide .result) (c .wide2 .result) (c .before .before .if1 .left) (c .before .wide .ensures) (c .wide2 .ensures)
 
 pub size-spec : {M : Type 1} → statement M
 size-spec =
-    tie.close (tie.spec returns wide-requires mul-wide array-read-wide wide-requires-2 returns-2)
+    tie.close (tie.spec returns (λ c κs. search needs) (λ c. search needs) (λ c. search needs) (λ c κs. search needs) returns-2)

@@ -6,24 +6,12 @@ use borrow.Author.Needs.{needs}
 use Rattle.leaves.proofs.names.inside.Statement.{statement}
 use Rattle.leaves.proofs.names.inside.Tie as tie
 
-returns : tie.Need-returns
-returns c = search needs
-
-byte-requires : tie.Need-byte-requires
-byte-requires c κs = search needs
-
-unquoted-requires : tie.Need-unquoted-requires
-unquoted-requires c κs = search needs
-
 returns-2 : tie.Need-returns-2
 returns-2 c =
     let a = (c .before .before .before .before .before) .args in
     let e = (c .unquoted) .ensures in
     let z = (c .before .before .before .if1) .left in
     (rw (e .0, e .1) (sym (inner-quoted (a .text .now) (a .at) (a .n) 39 (omega arith) (sym ((c .before .before .byte) .ensures) ∙ (c .before .if2) .taken) refl)), omega arith)
-
-unquoted-requires-2 : tie.Need-unquoted-requires-2
-unquoted-requires-2 c κs = search needs
 
 returns-3 : tie.Need-returns-3
 returns-3 c =
@@ -42,10 +30,8 @@ pub inside-spec : {M : Type 1} → statement M
 inside-spec =
     tie.close
     (tie.spec
-    returns
-    byte-requires
-    unquoted-requires
+    (λ c. search needs) (λ c κs. search needs) (λ c κs. search needs)
     returns-2
-    unquoted-requires-2
+    (λ c κs. search needs)
     returns-3
     returns-4)

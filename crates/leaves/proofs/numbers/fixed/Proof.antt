@@ -21,24 +21,6 @@ abbrev μ-loop : tie.MeasureT-loop
 loop-holds : tie.Need-loop-holds Inv-loop μ-loop
 loop-holds c = (refl, omega arith, refl)
 
-byte-requires : tie.Need-byte-requires Inv-loop μ-loop
-byte-requires c κs = search needs
-
-mul-result : tie.Need-mul-result Inv-loop μ-loop
-mul-result c = search needs
-
-add-three : tie.Need-add-three Inv-loop μ-loop
-add-three c = search needs
-
-sub-three : tie.Need-sub-three Inv-loop μ-loop
-sub-three c = search needs
-
-three-requires : tie.Need-three-requires Inv-loop μ-loop
-three-requires c κs = search needs
-
-add-result : tie.Need-add-result Inv-loop μ-loop
-add-result c = search needs
-
 returns : tie.Need-returns Inv-loop μ-loop
 returns c =
     let l = (c .before .before .before .before .loop) in
@@ -50,18 +32,6 @@ returns c =
     let b = l .inv .1 in
     (rw (h .0) (rw (cells-more t (l .i) (l .m) ((c .before .before .before .loop-test) .taken), p) at k), omega arith)
 
-grown-requires : tie.Need-grown-requires Inv-loop μ-loop
-grown-requires c κs = search needs
-
-add-i : tie.Need-add-i Inv-loop μ-loop
-add-i c = search needs
-
-sub-m : tie.Need-sub-m Inv-loop μ-loop
-sub-m c = search needs
-
-loop-less : tie.Need-loop-less Inv-loop μ-loop
-loop-less c = search needs
-
 loop-again : tie.Need-loop-again Inv-loop μ-loop
 loop-again c =
     let l = (c .before .before .before .before .loop) in
@@ -71,9 +41,6 @@ loop-again c =
     let k = l .inv .2 in
     let p = ne-eqb (getD t (l .i) 0) 46 (λ q. (c .before .if1) .left (y ∙ q)) in
     (omega arith, g .1, rw (g .0, y) (rw (cells-more t (l .i) (l .m) ((c .before .before .before .loop-test) .taken), p) at k))
-
-mul-result-2 : tie.Need-mul-result-2 Inv-loop μ-loop
-mul-result-2 c = search needs
 
 returns-2 : tie.Need-returns-2 Inv-loop μ-loop
 returns-2 c =
@@ -89,17 +56,9 @@ fixed-spec =
     Inv-loop
     μ-loop
     loop-holds
-    byte-requires
-    mul-result
-    add-three
-    sub-three
-    three-requires
-    add-result
+    (λ c κs. search needs) (λ c. search needs) (λ c. search needs) (λ c. search needs) (λ c κs. search needs) (λ c. search needs)
     returns
-    grown-requires
-    add-i
-    sub-m
-    loop-less
+    (λ c κs. search needs) (λ c. search needs) (λ c. search needs) (λ c. search needs)
     loop-again
-    mul-result-2
+    (λ c. search needs)
     returns-2)

@@ -7,15 +7,6 @@ use borrow.Author.Needs.{needs}
 use Rattle.leaves.proofs.numbers.grown.Statement.{statement}
 use Rattle.leaves.proofs.numbers.grown.Tie as tie
 
-mul-m : tie.Need-mul-m
-mul-m c = search needs
-
-digit-requires : tie.Need-digit-requires
-digit-requires c κs = search needs
-
-add-m : tie.Need-add-m
-add-m c = search needs
-
 returns : tie.Need-returns
 returns c =
     let a = (c .before .before) .args in
@@ -31,4 +22,4 @@ returns-2 c =
     (rw (lt-leb (a .n * 10 + (a .b - 48)) most h) (omega arith), omega arith)
 
 pub grown-spec : {M : Type 1} → statement M
-grown-spec = tie.close (tie.spec mul-m digit-requires add-m returns returns-2)
+grown-spec = tie.close (tie.spec (λ c. search needs) (λ c κs. search needs) (λ c. search needs) returns returns-2)

@@ -6,39 +6,12 @@ use borrow.Author.Needs.{needs}
 use Rattle.leaves.proofs.numbers.three.Statement.{statement}
 use Rattle.leaves.proofs.numbers.three.Tie as tie
 
-returns : tie.Need-returns
-returns c = search needs
-
-byte-requires : tie.Need-byte-requires
-byte-requires c κs = search needs
-
-digit-requires : tie.Need-digit-requires
-digit-requires c κs = search needs
-
-mul-a : tie.Need-mul-a
-mul-a c = search needs
-
 returns-2 : tie.Need-returns-2
 returns-2 c =
     let a = (c .before .before .before .before .before) .args in
     let d = (c .before .digit) .ensures in
     let y = (c .before .before .byte) .ensures in
     (rw (d .0, y) (sym (three-one (a .text .now) (a .at) (a .n) ((c .if2) .taken))), omega arith)
-
-add-byte : tie.Need-add-byte
-add-byte c = search needs
-
-byte-requires-2 : tie.Need-byte-requires-2
-byte-requires-2 c κs = search needs
-
-digit-requires-2 : tie.Need-digit-requires-2
-digit-requires-2 c κs = search needs
-
-mul-b : tie.Need-mul-b
-mul-b c = search needs
-
-add-b : tie.Need-add-b
-add-b c = search needs
 
 returns-3 : tie.Need-returns-3
 returns-3 c =
@@ -48,18 +21,6 @@ returns-3 c =
     let d2 = (c .before .digit2) .ensures in
     let y2 = (c .before .before .byte2) .ensures in
     (rw (d .0, y, d2 .0, y2) (sym (three-two (a .text .now) (a .at) (a .n) ((c .if3) .taken))), omega arith)
-
-add-byte-2 : tie.Need-add-byte-2
-add-byte-2 c = search needs
-
-byte-requires-3 : tie.Need-byte-requires-3
-byte-requires-3 c κs = search needs
-
-digit-requires-3 : tie.Need-digit-requires-3
-digit-requires-3 c κs = search needs
-
-add-result : tie.Need-add-result
-add-result c = search needs
 
 returns-4 : tie.Need-returns-4
 returns-4 c =
@@ -79,19 +40,9 @@ pub three-spec : {M : Type 1} → statement M
 three-spec =
     tie.close
     (tie.spec
-    returns
-    byte-requires
-    digit-requires
-    mul-a
+    (λ c. search needs) (λ c κs. search needs) (λ c κs. search needs) (λ c. search needs)
     returns-2
-    add-byte
-    byte-requires-2
-    digit-requires-2
-    mul-b
-    add-b
+    (λ c. search needs) (λ c κs. search needs) (λ c κs. search needs) (λ c. search needs) (λ c. search needs)
     returns-3
-    add-byte-2
-    byte-requires-3
-    digit-requires-3
-    add-result
+    (λ c. search needs) (λ c κs. search needs) (λ c κs. search needs) (λ c. search needs)
     returns-4)

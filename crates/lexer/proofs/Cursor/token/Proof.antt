@@ -8,22 +8,10 @@ use Rattle.lexer.proofs.Rules.{settled-none}
 use Rattle.lexer.proofs.Cursor.token.Statement.{statement}
 use Rattle.lexer.proofs.Cursor.token.Tie as tie
 
-returns : tie.Need-returns
-returns c = search needs
-
-longest-requires : tie.Need-longest-requires
-longest-requires c κs = search needs
-
 returns-2 : tie.Need-returns-2
 returns-2 c =
     let s = c .before .before .before .before in
     settled-none (s .args .text .now) (s .args .self .at) (c .before .longest .result) (c .if2 .taken) (c .before .longest .ensures)
-
-describe-requires : tie.Need-describe-requires
-describe-requires c κs = search needs
-
-add-t8 : tie.Need-add-t8
-add-t8 c = search needs
 
 returns-3 : tie.Need-returns-3
 returns-3 c =
@@ -36,4 +24,4 @@ returns-3 c =
 
 pub token-spec : {M : Type 1} → statement M
 token-spec =
-    tie.close (tie.spec returns longest-requires returns-2 describe-requires add-t8 returns-3)
+    tie.close (tie.spec (λ c. search needs) (λ c κs. search needs) returns-2 (λ c κs. search needs) (λ c. search needs) returns-3)

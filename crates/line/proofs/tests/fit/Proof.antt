@@ -4,20 +4,8 @@ use borrow.Author.Needs.{needs}
 use Rattle.line.proofs.tests.fit.Statement.{statement}
 use Rattle.line.proofs.tests.fit.Tie as tie
 
-past-limit-requires : tie.Need-past-limit-requires
-past-limit-requires c κs = search needs
-
-enum-told : tie.Need-enum-told
-enum-told c = search needs
-
 returns : tie.Need-returns
 returns c = over (c .before .before .before .before .before .before .before .pre) (c .before .before .past-limit .ensures) (c .enum-told .given .1)
-
-enum-told-2 : tie.Need-enum-told-2
-enum-told-2 c = search needs
-
-measure-requires : tie.Need-measure-requires
-measure-requires c κs = search needs
 
 returns-2 : tie.Need-returns-2
 returns-2 c = too-deep (c .before .before .before .before .before .before .before .before .before .before .pre) (c .before .before .measure .ensures) (c .if1 .taken)
@@ -35,11 +23,9 @@ pub fit-spec : {M : Type 1} → statement M
 fit-spec =
     tie.close
     (tie.spec
-    past-limit-requires
-    enum-told
+    (λ c κs. search needs) (λ c. search needs)
     returns
-    enum-told-2
-    measure-requires
+    (λ c. search needs) (λ c κs. search needs)
     returns-2
     returns-3
     returns-4

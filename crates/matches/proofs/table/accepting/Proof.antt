@@ -5,12 +5,9 @@ use borrow.Author.Needs.{needs}
 use Rattle.matches.proofs.table.accepting.Statement.{statement}
 use Rattle.matches.proofs.table.accepting.Tie as tie
 
-array-read-result : tie.Need-array-read-result
-array-read-result c = search needs
-
 returns : tie.Need-returns
 unfolding accOf accepts
 returns c = refl
 
 pub accepting-spec : {M : Type 1} → statement M
-accepting-spec = tie.close (tie.spec array-read-result returns)
+accepting-spec = tie.close (tie.spec (λ c. search needs) returns)

@@ -9,18 +9,6 @@ use borrow.Author.Needs.{needs}
 use Rattle.matches.proofs.table.next.Statement.{statement}
 use Rattle.matches.proofs.table.next.Tie as tie
 
-mul-wide : tie.Need-mul-wide
-mul-wide c = search needs
-
-add-wide : tie.Need-add-wide
-add-wide c = search needs
-
-array-read-wide : tie.Need-array-read-wide
-array-read-wide c = search needs
-
-wide-requires : tie.Need-wide-requires
-wide-requires c κs = search needs
-
 -- the entry that was read
 entry : (c : tie.After-wide) → c .wide .result ≡ getD delta (c .before .args .q * 20 + c .before .args .k) 0
 unfolding delta
@@ -38,4 +26,4 @@ unfolding nextOf
 returns c = ap (λ (d : ℕ). d - 48) (entry c)
 
 pub next-spec : {M : Type 1} → statement M
-next-spec = tie.close (tie.spec mul-wide add-wide array-read-wide wide-requires sub-result returns)
+next-spec = tie.close (tie.spec (λ c. search needs) (λ c. search needs) (λ c. search needs) (λ c κs. search needs) sub-result returns)

@@ -5,12 +5,9 @@ use borrow.Author.Needs.{needs}
 use Rattle.matches.proofs.table.plain.Statement.{statement}
 use Rattle.matches.proofs.table.plain.Tie as tie
 
-array-read-result : tie.Need-array-read-result
-array-read-result c = search needs
-
 returns : tie.Need-returns
 unfolding plainOf plain-states
 returns c = refl
 
 pub plain-spec : {M : Type 1} → statement M
-plain-spec = tie.close (tie.spec array-read-result returns)
+plain-spec = tie.close (tie.spec (λ c. search needs) returns)

@@ -7,9 +7,6 @@ use borrow.Author.Needs.{needs}
 use Rattle.measure.proofs.single.calls.Statement.{statement}
 use Rattle.measure.proofs.single.calls.Tie as tie
 
-kind-at-requires : tie.Need-kind-at-requires
-kind-at-requires c κs = search needs
-
 returns : tie.Need-returns
 returns c = let k = (c .before .kind-at) .ensures in let z = (c .if1) .taken in record { room = λ e. contra e; yes = λ e. contra e; no = λ e a b. absurd (omega arith) }
 
@@ -22,9 +19,6 @@ add-kind-at c =
     let z = (c .if2) .left in
     let i = kind-inside ((c .before .before .before .before) .args .kinds .now) ((c .before .before .before .before) .args .p) (omega arith) in
     omega arith
-
-kind-at-requires-2 : tie.Need-kind-at-requires-2
-kind-at-requires-2 c κs = search needs
 
 returns-3 : tie.Need-returns-3
 returns-3 c = let k = (c .before .kind-at2) .ensures in record { room = λ e. contra e; yes = λ e. contra e; no = λ e a b q. (c .if3) .taken (k ∙ q) }
@@ -42,10 +36,10 @@ pub calls-spec : {M : Type 1} → statement M
 calls-spec =
     tie.close
     (tie.spec
-    kind-at-requires
+    (λ c κs. search needs)
     returns
     returns-2
     add-kind-at
-    kind-at-requires-2
+    (λ c κs. search needs)
     returns-3
     returns-4)

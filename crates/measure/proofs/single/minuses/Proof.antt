@@ -26,9 +26,6 @@ abbrev μ-loop : tie.MeasureT-loop
 loop-holds : tie.Need-loop-holds Inv-loop μ-loop
 loop-holds c = (omega arith, λ text places lengths a b d w r e f t. minus-first f t)
 
-kind-at-requires : tie.Need-kind-at-requires Inv-loop μ-loop
-kind-at-requires c κs = search needs
-
 returns : tie.Need-returns Inv-loop μ-loop
 returns c =
     let k = c .before .kind-at .ensures in
@@ -56,4 +53,4 @@ loop-again c =
     (omega arith, λ text places lengths a b d w r e f t. minus-off (l .q) (l .inv .0) (sym k ∙ c .if1 .left) (l .inv .1 text places lengths a b d w r e f t))
 
 pub minuses-spec : {M : Type 1} → statement M
-minuses-spec = tie.close (tie.spec Inv-loop μ-loop loop-holds kind-at-requires returns add-q loop-less loop-again)
+minuses-spec = tie.close (tie.spec Inv-loop μ-loop loop-holds (λ c κs. search needs) returns add-q loop-less loop-again)

@@ -8,12 +8,6 @@ use borrow.Author.Needs.{needs}
 use Rattle.measure.proofs.single.single.Statement.{statement}
 use Rattle.measure.proofs.single.single.Tie as tie
 
-kind-at-requires : tie.Need-kind-at-requires
-kind-at-requires c κs = search needs
-
-refused-requires : tie.Need-refused-requires
-refused-requires c κs = search needs
-
 returns : tie.Need-returns
 returns c =
     let k = c .before .before .kind-at .ensures in
@@ -22,9 +16,6 @@ returns c =
       onward = record { on = λ e. contra (sym (c .refused .ensures) ∙ e); few = λ e. contra (sym (c .refused .ensures) ∙ e) };
       done = λ text places lengths b d r t e s l. absurd (let i = single-kind s l in omega arith);
     }
-
-refused-requires-2 : tie.Need-refused-requires-2
-refused-requires-2 c κs = search needs
 
 returns-2 : tie.Need-returns-2
 returns-2 c =
@@ -49,4 +40,4 @@ returns-3 c = record {
 }
 
 pub single-spec : {M : Type 1} → statement M
-single-spec = tie.close (tie.spec kind-at-requires refused-requires returns refused-requires-2 returns-2 add-t5 returns-3)
+single-spec = tie.close (tie.spec (λ c κs. search needs) (λ c κs. search needs) returns (λ c κs. search needs) returns-2 add-t5 returns-3)

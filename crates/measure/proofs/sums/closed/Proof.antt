@@ -8,9 +8,6 @@ use borrow.Author.Needs.{needs}
 use Rattle.measure.proofs.sums.closed.Statement.{statement}
 use Rattle.measure.proofs.sums.closed.Tie as tie
 
-refused-requires : tie.Need-refused-requires
-refused-requires c κs = search needs
-
 returns : tie.Need-returns
 returns c = record {
   next = λ e. contra (sym (c .refused .ensures) ∙ e);
@@ -18,30 +15,12 @@ returns c = record {
   done = λ text places lengths b r t es e s o h g l k. absurd (let i = stand-length s in let z = c .before .if1 .taken in omega arith);
 }
 
-deeper-requires : tie.Need-deeper-requires
-deeper-requires c κs = search needs
-
-add-t9 : tie.Need-add-t9
-add-t9 c = search needs
-
-add-t10 : tie.Need-add-t10
-add-t10 c = search needs
-
-larger-requires : tie.Need-larger-requires
-larger-requires c κs = search needs
-
 returns-2 : tie.Need-returns-2
 returns-2 c = record {
   next = λ e. refl;
   few = λ e. refl;
   done = λ text places lengths b r t es e s o h g l k. closed-done l _ _ s o h g k (c .before .before .before .deeper .ensures) (λ q. c .larger .ensures) (λ q. absurd (q (c .before .before .if2 .taken)));
 }
-
-add-t7 : tie.Need-add-t7
-add-t7 c = search needs
-
-add-t12 : tie.Need-add-t12
-add-t12 c = search needs
 
 returns-3 : tie.Need-returns-3
 returns-3 c = record {
@@ -54,13 +33,9 @@ pub closed-spec : {M : Type 1} → statement M
 closed-spec =
     tie.close
     (tie.spec
-    refused-requires
+    (λ c κs. search needs)
     returns
-    deeper-requires
-    add-t9
-    add-t10
-    larger-requires
+    (λ c κs. search needs) (λ c. search needs) (λ c. search needs) (λ c κs. search needs)
     returns-2
-    add-t7
-    add-t12
+    (λ c. search needs) (λ c. search needs)
     returns-3)

@@ -17,35 +17,14 @@ abbrev μ-loop : tie.MeasureT-loop
 loop-holds : tie.Need-loop-holds Inv-loop μ-loop
 loop-holds c = (omega arith, settled-first)
 
-sub-if1 : tie.Need-sub-if1 Inv-loop μ-loop
-sub-if1 c = search needs
-
 array-read-if1 : tie.Need-array-read-if1 Inv-loop μ-loop
 array-read-if1 c = let g = c .before .loop .inv .0 in search needs
 
 returns : tie.Need-returns Inv-loop μ-loop
 returns c = record { few = c .before .before .loop .inv .0; looser = λ z. c .if1 .taken; done = c .before .before .loop .inv .1 }
 
-sub-larger : tie.Need-sub-larger Inv-loop μ-loop
-sub-larger c = search needs
-
-mul-larger : tie.Need-mul-larger Inv-loop μ-loop
-mul-larger c = search needs
-
 array-read-larger : tie.Need-array-read-larger Inv-loop μ-loop
 array-read-larger c = let g = c .before .before .loop .inv .0 in search needs
-
-larger-requires : tie.Need-larger-requires Inv-loop μ-loop
-larger-requires c κs = search needs
-
-deeper-requires : tie.Need-deeper-requires Inv-loop μ-loop
-deeper-requires c κs = search needs
-
-sub-m : tie.Need-sub-m Inv-loop μ-loop
-sub-m c = search needs
-
-loop-less : tie.Need-loop-less Inv-loop μ-loop
-loop-less c = search needs
 
 loop-again : tie.Need-loop-again Inv-loop μ-loop
 loop-again c =
@@ -71,15 +50,11 @@ reduce-spec =
     Inv-loop
     μ-loop
     loop-holds
-    sub-if1
+    (λ c. search needs)
     array-read-if1
     returns
-    sub-larger
-    mul-larger
+    (λ c. search needs) (λ c. search needs)
     array-read-larger
-    larger-requires
-    deeper-requires
-    sub-m
-    loop-less
+    (λ c κs. search needs) (λ c κs. search needs) (λ c. search needs) (λ c. search needs)
     loop-again
     returns-2)

@@ -15,12 +15,6 @@ small c = mul-bound (c .before .before .before .before .before .wide-of .result 
 fits : (c : tie.After-struct-told2) → SFits w64 (c .before .before .before .before .before .wide-of .result .z *ℤ c .before .before .before .before .wide-of2 .result .z)
 fits c = fits-mul (c .before .before .before .before .before .wide-of .result .z) (c .before .before .before .before .wide-of2 .result .z) (small c)
 
-wide-of-requires : tie.Need-wide-of-requires
-wide-of-requires c κs = search needs
-
-wide-of-requires-2 : tie.Need-wide-of-requires-2
-wide-of-requires-2 c κs = search needs
-
 mul-t5 : tie.Need-mul-t5
 mul-t5 c =
     let f : SFits w64 (c .before .before .before .before .before .wide-of .result .z) = search needs in
@@ -36,4 +30,4 @@ returns c =
     )
 
 pub product-spec : {M : Type 1} → statement M
-product-spec = tie.close (tie.spec wide-of-requires wide-of-requires-2 mul-t5 returns)
+product-spec = tie.close (tie.spec (λ c κs. search needs) (λ c κs. search needs) mul-t5 returns)

@@ -11,9 +11,6 @@ use borrow.Author.Needs.{needs}
 use Rattle.numbers.proofs.number.real_fits.Statement.{statement}
 use Rattle.numbers.proofs.number.real_fits.Tie as tie
 
-sub-if1 : tie.Need-sub-if1
-sub-if1 c = search needs
-
 returns : tie.Need-returns
 returns c =
     let z = c .before .before .args .w .z in
@@ -37,4 +34,4 @@ returns-3 c =
     sym (between 1_999_999_999 z d e)
 
 pub real-fits-spec : {M : Type 1} → statement M
-real-fits-spec = tie.close (tie.spec sub-if1 returns returns-2 returns-3)
+real-fits-spec = tie.close (tie.spec (λ c. search needs) returns returns-2 returns-3)

@@ -17,9 +17,6 @@ small c = mul-bound (c .before .before .wide-of .result .z) (pos 1000) (2 ^ 31) 
 fits : (c : tie.After-struct-told) → SFits w64 (c .before .before .wide-of .result .z *ℤ pos 1000)
 fits c = fits-mul (c .before .before .wide-of .result .z) (pos 1000) (omega (arith, small c))
 
-wide-of-requires : tie.Need-wide-of-requires
-wide-of-requires c κs = search needs
-
 mul-t3 : tie.Need-mul-t3
 mul-t3 c =
     let f : SFits w64 (c .before .before .wide-of .result .z) = search needs in
@@ -31,4 +28,4 @@ returns c =
     (simp (toZ-ofZ f) (simp (toZ-ofZ (fits c)) (simp (c .before .before .wide-of .ensures .0))), simp (toZ-ofZ f) (simp (toZ-ofZ (fits c)) (omega (arith, small c))))
 
 pub thousandths-spec : {M : Type 1} → statement M
-thousandths-spec = tie.close (tie.spec wide-of-requires mul-t3 returns)
+thousandths-spec = tie.close (tie.spec (λ c κs. search needs) mul-t3 returns)

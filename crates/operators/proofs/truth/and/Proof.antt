@@ -11,30 +11,12 @@ use borrow.Author.Needs.{needs}
 use Rattle.operators.proofs.truth.and.Statement.{statement}
 use Rattle.operators.proofs.truth.and.Tie as tie
 
-scalar-of-requires : tie.Need-scalar-of-requires
-scalar-of-requires c κs = search needs
-
-is-true-requires : tie.Need-is-true-requires
-is-true-requires c κs = search needs
-
-scalar-of-requires-2 : tie.Need-scalar-of-requires-2
-scalar-of-requires-2 c κs = search needs
-
-is-true-requires-2 : tie.Need-is-true-requires-2
-is-true-requires-2 c κs = search needs
-
-single-requires : tie.Need-single-requires
-single-requires c κs = search needs
-
 returns : tie.Need-returns
 returns c = λ bs. let a = c .before .before .before .before .before .before .args in
     let e : trueC (scalarOf (a .a)) ≡ true = sym (c .before .before .before .before .is-true .ensures ∙ ap trueC (c .before .before .before .before .before .scalar-of .ensures)) ∙ c .before .before .before .if1 .taken in
     means bs section-11.and (a .a ∷ a .b ∷ []) (c .single .result) tt
     (single-is bs (c .single .result) (c .single .ensures)
     ∙ and-comes bs (a .a) (a .b) (c .before .is-true2 .result) (rw e (c .before .is-true2 .ensures ∙ ap trueC (c .before .before .scalar-of2 .ensures))))
-
-single-requires-2 : tie.Need-single-requires-2
-single-requires-2 c κs = search needs
 
 returns-2 : tie.Need-returns-2
 returns-2 c = λ bs. let a = c .before .before .before .before .args in
@@ -46,11 +28,7 @@ pub and-spec : {M : Type 1} → statement M
 and-spec =
     tie.close
     (tie.spec
-    scalar-of-requires
-    is-true-requires
-    scalar-of-requires-2
-    is-true-requires-2
-    single-requires
+    (λ c κs. search needs) (λ c κs. search needs) (λ c κs. search needs) (λ c κs. search needs) (λ c κs. search needs)
     returns
-    single-requires-2
+    (λ c κs. search needs)
     returns-2)

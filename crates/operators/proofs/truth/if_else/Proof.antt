@@ -11,27 +11,15 @@ use borrow.Author.Needs.{needs}
 use Rattle.operators.proofs.truth.if_else.Statement.{statement}
 use Rattle.operators.proofs.truth.if_else.Tie as tie
 
-scalar-of-requires : tie.Need-scalar-of-requires
-scalar-of-requires c κs = search needs
-
-is-true-requires : tie.Need-is-true-requires
-is-true-requires c κs = search needs
-
 returns : tie.Need-returns
 returns c = λ bs. let a = c .before .before .before .args in
     let e : trueC (scalarOf (a .a)) ≡ true = sym (c .before .is-true .ensures ∙ ap trueC (c .before .before .scalar-of .ensures)) ∙ c .if1 .taken in
     means bs section-11.if (a .a ∷ a .b ∷ a .c ∷ []) (a .b) tt (if-true bs (a .a) (meaningV bs (a .b)) (meaningV bs (a .c)) e)
 
-is-false-requires : tie.Need-is-false-requires
-is-false-requires c κs = search needs
-
 returns-2 : tie.Need-returns-2
 returns-2 c = λ bs. let a = c .before .before .before .before .before .args in
     let e : falseC (scalarOf (a .a)) ≡ true = sym (c .before .is-false .ensures ∙ ap falseC (c .before .before .before .before .scalar-of .ensures)) ∙ c .if2 .taken in
     means bs section-11.if (a .a ∷ a .b ∷ a .c ∷ []) (a .c) tt (if-false bs (a .a) (meaningV bs (a .b)) (meaningV bs (a .c)) e)
-
-single-requires : tie.Need-single-requires
-single-requires c κs = search needs
 
 returns-3 : tie.Need-returns-3
 returns-3 c = λ bs. let a = c .before .before .before .before .before .before .args in
@@ -44,10 +32,9 @@ pub if-else-spec : {M : Type 1} → statement M
 if-else-spec =
     tie.close
     (tie.spec
-    scalar-of-requires
-    is-true-requires
+    (λ c κs. search needs) (λ c κs. search needs)
     returns
-    is-false-requires
+    (λ c κs. search needs)
     returns-2
-    single-requires
+    (λ c κs. search needs)
     returns-3)

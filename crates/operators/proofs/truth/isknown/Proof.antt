@@ -8,18 +8,9 @@ use borrow.Author.Needs.{needs}
 use Rattle.operators.proofs.truth.isknown.Statement.{statement}
 use Rattle.operators.proofs.truth.isknown.Tie as tie
 
-single-requires : tie.Need-single-requires
-single-requires c κs = search needs
-
 returns : tie.Need-returns
 returns c = λ bs. let a = c .before .before .args in
     means bs section-11.isknown (a .a ∷ []) (c .single .result) tt (single-is bs (c .single .result) (c .single .ensures) ∙ list-known bs (a .a) (c .before .if1 .taken))
-
-is-unknown-requires : tie.Need-is-unknown-requires
-is-unknown-requires c κs = search needs
-
-single-requires-2 : tie.Need-single-requires-2
-single-requires-2 c κs = search needs
 
 returns-2 : tie.Need-returns-2
 returns-2 c = λ bs. let a = c .before .before .before .args in
@@ -28,4 +19,4 @@ returns-2 c = λ bs. let a = c .before .before .before .args in
 
 pub isknown-spec : {M : Type 1} → statement M
 isknown-spec =
-    tie.close (tie.spec single-requires returns is-unknown-requires single-requires-2 returns-2)
+    tie.close (tie.spec (λ c κs. search needs) returns (λ c κs. search needs) (λ c κs. search needs) returns-2)

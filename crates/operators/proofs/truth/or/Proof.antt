@@ -11,29 +11,11 @@ use borrow.Author.Needs.{needs}
 use Rattle.operators.proofs.truth.or.Statement.{statement}
 use Rattle.operators.proofs.truth.or.Tie as tie
 
-scalar-of-requires : tie.Need-scalar-of-requires
-scalar-of-requires c κs = search needs
-
-is-true-requires : tie.Need-is-true-requires
-is-true-requires c κs = search needs
-
-single-requires : tie.Need-single-requires
-single-requires c κs = search needs
-
 returns : tie.Need-returns
 returns c = λ bs. let a = c .before .before .before .before .args in
     let e : trueC (scalarOf (a .a)) ≡ true = sym (c .before .before .is-true .ensures ∙ ap trueC (c .before .before .before .scalar-of .ensures)) ∙ c .before .if1 .taken in
     means bs section-11.or (a .a ∷ a .b ∷ []) (c .single .result) tt
     (single-is bs (c .single .result) (c .single .ensures) ∙ or-comes bs (a .a) (a .b) true (rw e))
-
-scalar-of-requires-2 : tie.Need-scalar-of-requires-2
-scalar-of-requires-2 c κs = search needs
-
-is-true-requires-2 : tie.Need-is-true-requires-2
-is-true-requires-2 c κs = search needs
-
-single-requires-2 : tie.Need-single-requires-2
-single-requires-2 c κs = search needs
 
 returns-2 : tie.Need-returns-2
 returns-2 c = λ bs. let a = c .before .before .before .before .before .before .args in
@@ -46,11 +28,7 @@ pub or-spec : {M : Type 1} → statement M
 or-spec =
     tie.close
     (tie.spec
-    scalar-of-requires
-    is-true-requires
-    single-requires
+    (λ c κs. search needs) (λ c κs. search needs) (λ c κs. search needs)
     returns
-    scalar-of-requires-2
-    is-true-requires-2
-    single-requires-2
+    (λ c κs. search needs) (λ c κs. search needs) (λ c κs. search needs)
     returns-2)

@@ -4,9 +4,6 @@ use borrow.Author.Needs.{needs}
 use Rattle.outline.proofs.flags.answer.Statement.{statement}
 use Rattle.outline.proofs.flags.answer.Tie as tie
 
-spelt-requires : tie.Need-spelt-requires
-spelt-requires c κs = search needs
-
 returns : tie.Need-returns
 returns c = λ t b s y. answer-three ((c .before .before .spelt) .ensures) s ((c .if1) .taken) y
 
@@ -14,4 +11,4 @@ returns-2 : tie.Need-returns-2
 returns-2 c = λ t b s y. answer-two ((c .before .before .spelt) .ensures) s ((c .if1) .left) y
 
 pub answer-spec : {M : Type 1} → statement M
-answer-spec = tie.close (tie.spec spelt-requires returns returns-2)
+answer-spec = tie.close (tie.spec (λ c κs. search needs) returns returns-2)

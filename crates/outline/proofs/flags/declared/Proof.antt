@@ -5,9 +5,6 @@ use borrow.Author.Needs.{needs}
 use Rattle.outline.proofs.flags.declared.Statement.{statement}
 use Rattle.outline.proofs.flags.declared.Tie as tie
 
-spelt-requires : tie.Need-spelt-requires
-spelt-requires c κs = search needs
-
 type-of-requires : tie.Need-type-of-requires
 type-of-requires c κs = (c .spelt) .ensures .inside
 
@@ -15,4 +12,4 @@ returns : tie.Need-returns
 returns c = λ t d s y. (c .type-of) .ensures ∙ declared-law ((c .before .spelt) .ensures) s y
 
 pub declared-spec : {M : Type 1} → statement M
-declared-spec = tie.close (tie.spec spelt-requires type-of-requires returns)
+declared-spec = tie.close (tie.spec (λ c κs. search needs) type-of-requires returns)

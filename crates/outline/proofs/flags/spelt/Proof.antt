@@ -7,15 +7,6 @@ use borrow.Author.Needs.{needs}
 use Rattle.outline.proofs.flags.spelt.Statement.{statement}
 use Rattle.outline.proofs.flags.spelt.Tie as tie
 
-cell-requires : tie.Need-cell-requires
-cell-requires c κs = search needs
-
-cell-requires-2 : tie.Need-cell-requires-2
-cell-requires-2 c κs = search needs
-
-fits-requires : tie.Need-fits-requires
-fits-requires c κs = search needs
-
 inside-requires : tie.Need-inside-requires
 inside-requires c κs = (c .before .fits2) .ensures .0 ((c .if1) .taken)
 
@@ -28,4 +19,4 @@ returns-2 c = record { inside = omega arith; done = λ t s. contra (sym ((c .if1
 pub spelt-spec : {M : Type 1} → statement M
 spelt-spec =
     tie.close
-    (tie.spec cell-requires cell-requires-2 fits-requires inside-requires returns returns-2)
+    (tie.spec (λ c κs. search needs) (λ c κs. search needs) (λ c κs. search needs) inside-requires returns returns-2)

@@ -5,12 +5,6 @@ use borrow.Author.Needs.{needs}
 use Rattle.outline.proofs.flags.type_of.Statement.{statement}
 use Rattle.outline.proofs.flags.type_of.Tie as tie
 
-add-byte : tie.Need-add-byte
-add-byte c = search needs
-
-byte-requires : tie.Need-byte-requires
-byte-requires c κs = search needs
-
 returns : tie.Need-returns
 returns c = rw (eq-eqb _ 4 ((c .before .before .if1) .taken), eq-eqb _ 120 (sym ((c .before .byte) .ensures) ∙ (c .if2) .taken))
 
@@ -23,12 +17,6 @@ returns-3 c = rw (eq-eqb _ 4 ((c .before .before .before .before .if1) .taken), 
 returns-4 : tie.Need-returns-4
 returns-4 c = rw (eq-eqb _ 4 ((c .before .before .before .before .if1) .taken), ne-eqb _ 120 (λ z. (c .before .before .if2) .left ((c .before .before .before .byte) .ensures ∙ z)), ne-eqb _ 116 (λ z. (c .before .if3) .left ((c .before .before .before .byte) .ensures ∙ z)), ne-eqb _ 109 (λ z. (c .if4) .left ((c .before .before .before .byte) .ensures ∙ z)))
 
-add-byte-2 : tie.Need-add-byte-2
-add-byte-2 c = search needs
-
-byte-requires-2 : tie.Need-byte-requires-2
-byte-requires-2 c κs = search needs
-
 returns-5 : tie.Need-returns-5
 returns-5 c = rw (ne-eqb _ 4 ((c .before .before .before .if1) .left), eq-eqb _ 7 ((c .before .before .if5) .taken), eq-eqb _ 116 (sym ((c .before .byte2) .ensures) ∙ (c .if6) .taken))
 
@@ -37,12 +25,6 @@ returns-6 c = rw (ne-eqb _ 4 ((c .before .before .before .if1) .left), eq-eqb _ 
 
 returns-7 : tie.Need-returns-7
 returns-7 c = rw (ne-eqb _ 4 ((c .before .before .if1) .left), ne-eqb _ 7 ((c .before .if5) .left), eq-eqb _ 8 ((c .if7) .taken))
-
-add-byte-3 : tie.Need-add-byte-3
-add-byte-3 c = search needs
-
-byte-requires-3 : tie.Need-byte-requires-3
-byte-requires-3 c κs = search needs
 
 returns-8 : tie.Need-returns-8
 returns-8 c = rw (ne-eqb _ 4 ((c .before .before .before .before .before .if1) .left), ne-eqb _ 7 ((c .before .before .before .before .if5) .left), ne-eqb _ 8 ((c .before .before .before .if7) .left), eq-eqb _ 10 ((c .before .before .if8) .taken), eq-eqb _ 116 (sym ((c .before .byte3) .ensures) ∙ (c .if9) .taken))
@@ -57,19 +39,16 @@ pub type-of-spec : {M : Type 1} → statement M
 type-of-spec =
     tie.close
     (tie.spec
-    add-byte
-    byte-requires
+    (λ c. search needs) (λ c κs. search needs)
     returns
     returns-2
     returns-3
     returns-4
-    add-byte-2
-    byte-requires-2
+    (λ c. search needs) (λ c κs. search needs)
     returns-5
     returns-6
     returns-7
-    add-byte-3
-    byte-requires-3
+    (λ c. search needs) (λ c κs. search needs)
     returns-8
     returns-9
     returns-10)

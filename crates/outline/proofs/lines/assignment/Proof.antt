@@ -8,33 +8,12 @@ use borrow.Author.Needs.{needs}
 use Rattle.outline.proofs.lines.assignment.Statement.{statement}
 use Rattle.outline.proofs.lines.assignment.Tie as tie
 
-add-measure : tie.Need-add-measure
-add-measure c = search needs
-
-measure-requires : tie.Need-measure-requires
-measure-requires c κs = search needs
-
-stuck-requires : tie.Need-stuck-requires
-stuck-requires c κs = search needs
-
 returns : tie.Need-returns
 returns c =
     record {
       onward = λ e. contra (sym ((c .stuck) .ensures) ∙ e);
       done = λ w r m rs f x. contra (sym (not-true _ ((c .before .if1) .taken)) ∙ assignment-measured f ((c .before .before .before .measure) .ensures) x);
     }
-
-cell-requires : tie.Need-cell-requires
-cell-requires c κs = search needs
-
-add-t9 : tie.Need-add-t9
-add-t9 c = search needs
-
-add-cell : tie.Need-add-cell
-add-cell c = search needs
-
-cell-requires-2 : tie.Need-cell-requires-2
-cell-requires-2 c κs = search needs
 
 returns-2 : tie.Need-returns-2
 returns-2 c =
@@ -47,12 +26,7 @@ pub assignment-spec : {M : Type 1} → statement M
 assignment-spec =
     tie.close
     (tie.spec
-    add-measure
-    measure-requires
-    stuck-requires
+    (λ c. search needs) (λ c κs. search needs) (λ c κs. search needs)
     returns
-    cell-requires
-    add-t9
-    add-cell
-    cell-requires-2
+    (λ c κs. search needs) (λ c. search needs) (λ c. search needs) (λ c κs. search needs)
     returns-2)

@@ -8,15 +8,6 @@ use borrow.Author.Needs.{needs}
 use Rattle.outline.proofs.lines.expression.Statement.{statement}
 use Rattle.outline.proofs.lines.expression.Tie as tie
 
-add-measure : tie.Need-add-measure
-add-measure c = search needs
-
-measure-requires : tie.Need-measure-requires
-measure-requires c κs = search needs
-
-stuck-requires : tie.Need-stuck-requires
-stuck-requires c κs = search needs
-
 returns : tie.Need-returns
 returns c =
     record {
@@ -24,33 +15,12 @@ returns c =
       done = λ w r m rs f x. contra (sym (not-true _ ((c .before .if1) .taken)) ∙ expression-measured f ((c .before .before .before .measure) .ensures) x .0);
     }
 
-stuck-requires-2 : tie.Need-stuck-requires-2
-stuck-requires-2 c κs = search needs
-
 returns-2 : tie.Need-returns-2
 returns-2 c =
     record {
       onward = λ e. contra (sym ((c .stuck2) .ensures) ∙ e);
       done = λ w r m rs f x. absurd (let l = expression-measured f ((c .before .before .before .before .measure) .ensures) x .1 in let h = (c .before .if2) .taken in omega arith);
     }
-
-add-t8 : tie.Need-add-t8
-add-t8 c = search needs
-
-kind-at-requires : tie.Need-kind-at-requires
-kind-at-requires c κs = search needs
-
-cell-requires : tie.Need-cell-requires
-cell-requires c κs = search needs
-
-add-t12 : tie.Need-add-t12
-add-t12 c = search needs
-
-add-cell : tie.Need-add-cell
-add-cell c = search needs
-
-cell-requires-2 : tie.Need-cell-requires-2
-cell-requires-2 c κs = search needs
 
 returns-3 : tie.Need-returns-3
 returns-3 c =
@@ -63,16 +33,9 @@ pub expression-spec : {M : Type 1} → statement M
 expression-spec =
     tie.close
     (tie.spec
-    add-measure
-    measure-requires
-    stuck-requires
+    (λ c. search needs) (λ c κs. search needs) (λ c κs. search needs)
     returns
-    stuck-requires-2
+    (λ c κs. search needs)
     returns-2
-    add-t8
-    kind-at-requires
-    cell-requires
-    add-t12
-    add-cell
-    cell-requires-2
+    (λ c. search needs) (λ c κs. search needs) (λ c κs. search needs) (λ c. search needs) (λ c. search needs) (λ c κs. search needs)
     returns-3)

@@ -7,39 +7,6 @@ use borrow.Author.Needs.{needs}
 use Rattle.outline.proofs.lines.line.Statement.{statement}
 use Rattle.outline.proofs.lines.line.Tie as tie
 
-kind-at-requires : tie.Need-kind-at-requires
-kind-at-requires c κs = search needs
-
-shape-requires : tie.Need-shape-requires
-shape-requires c κs = search needs
-
-task-requires : tie.Need-task-requires
-task-requires c κs = search needs
-
-data-item-requires : tie.Need-data-item-requires
-data-item-requires c κs = search needs
-
-expression-requires : tie.Need-expression-requires
-expression-requires c κs = search needs
-
-name-requires : tie.Need-name-requires
-name-requires c κs = search needs
-
-answer-requires : tie.Need-answer-requires
-answer-requires c κs = search needs
-
-constraint-requires : tie.Need-constraint-requires
-constraint-requires c κs = search needs
-
-postcondition-requires : tie.Need-postcondition-requires
-postcondition-requires c κs = search needs
-
-add-on : tie.Need-add-on
-add-on c = search needs
-
-on-requires : tie.Need-on-requires
-on-requires c κs = search needs
-
 returns : tie.Need-returns
 returns c = by-kind ((c .before .before .before .kind-at) .result) ((c .before .before .before .kind-at) .ensures) (told ((c .before .before .before .kind-at) .result) ((c .before .before .shape) .ensures) (ap of-letter ((c .before .match) .keys1))) ((c .task) .ensures)
 
@@ -71,17 +38,8 @@ pub line-spec : {M : Type 1} → statement M
 line-spec =
     tie.close
     (tie.spec
-    kind-at-requires
-    shape-requires
-    task-requires
-    data-item-requires
-    expression-requires
-    name-requires
-    answer-requires
-    constraint-requires
-    postcondition-requires
-    add-on
-    on-requires
+    (λ c κs. search needs) (λ c κs. search needs) (λ c κs. search needs) (λ c κs. search needs) (λ c κs. search needs)
+    (λ c κs. search needs) (λ c κs. search needs) (λ c κs. search needs) (λ c κs. search needs) (λ c. search needs) (λ c κs. search needs)
     returns
     returns-2
     returns-3

@@ -5,14 +5,8 @@ use borrow.Author.Needs.{needs}
 use Rattle.outline.proofs.lines.postcondition.Statement.{statement}
 use Rattle.outline.proofs.lines.postcondition.Tie as tie
 
-add-t6 : tie.Need-add-t6
-add-t6 c = search needs
-
-cell-requires : tie.Need-cell-requires
-cell-requires c κs = search needs
-
 returns : tie.Need-returns
 returns c = record { onward = λ e. omega arith; done = λ w r m rs f x. postcondition-gives f _ ((c .cell) .ensures) x }
 
 pub postcondition-spec : {M : Type 1} → statement M
-postcondition-spec = tie.close (tie.spec add-t6 cell-requires returns)
+postcondition-spec = tie.close (tie.spec (λ c. search needs) (λ c κs. search needs) returns)

@@ -5,9 +5,6 @@ use borrow.Author.Needs.{needs}
 use Rattle.outline.proofs.lines.shape.Statement.{statement}
 use Rattle.outline.proofs.lines.shape.Tie as tie
 
-array-read-result : tie.Need-array-read-result
-array-read-result c = search needs
-
 returns : tie.Need-returns
 unfolding shapes
 returns c = shape-in-table ((c .before) .args .k) ((c .if1) .taken)
@@ -16,4 +13,4 @@ returns-2 : tie.Need-returns-2
 returns-2 c = sym (out-shape ((c .before) .args .k) ((c .if1) .left))
 
 pub shape-spec : {M : Type 1} → statement M
-shape-spec = tie.close (tie.spec array-read-result returns returns-2)
+shape-spec = tie.close (tie.spec (λ c. search needs) returns returns-2)

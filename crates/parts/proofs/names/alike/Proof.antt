@@ -24,29 +24,11 @@ loop-holds c =
     let a = c .before .before .args in
     (omega arith, omega arith, ap (λ k. alikeb (textAt (a .bytes .now) (a .g)) (cells (a .bytes .now) (a .h / 64) k)) (sym (c .if1 .left)))
 
-lower-at-requires : tie.Need-lower-at-requires Inv-loop μ-loop
-lower-at-requires c κs = search needs
-
-lower-at-requires-2 : tie.Need-lower-at-requires-2 Inv-loop μ-loop
-lower-at-requires-2 c κs = search needs
-
 returns-2 : tie.Need-returns-2 Inv-loop μ-loop
 returns-2 c =
     let l = c .before .before .before .before .loop in
     sym (l .inv .2 ∙ alike-stop (c .before .before .before .before .before .before .before .args .bytes .now) (l .x) (l .y) (l .m) (c .before .before .before .loop-test .taken)
     (λ e. c .if2 .taken (c .before .before .lower-at .ensures ∙ e ∙ sym (c .before .lower-at2 .ensures))))
-
-add-x : tie.Need-add-x Inv-loop μ-loop
-add-x c = search needs
-
-add-y : tie.Need-add-y Inv-loop μ-loop
-add-y c = search needs
-
-sub-m : tie.Need-sub-m Inv-loop μ-loop
-sub-m c = search needs
-
-loop-less : tie.Need-loop-less Inv-loop μ-loop
-loop-less c = search needs
 
 loop-again : tie.Need-loop-again Inv-loop μ-loop
 loop-again c =
@@ -68,12 +50,8 @@ alike-spec =
     μ-loop
     returns
     loop-holds
-    lower-at-requires
-    lower-at-requires-2
+    (λ c κs. search needs) (λ c κs. search needs)
     returns-2
-    add-x
-    add-y
-    sub-m
-    loop-less
+    (λ c. search needs) (λ c. search needs) (λ c. search needs) (λ c. search needs)
     loop-again
     returns-3)

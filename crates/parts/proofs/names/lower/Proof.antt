@@ -4,9 +4,6 @@ use borrow.Author.Needs.{needs}
 use Rattle.parts.proofs.names.lower.Statement.{statement}
 use Rattle.parts.proofs.names.lower.Tie as tie
 
-add-result : tie.Need-add-result
-add-result c = search needs
-
 returns : tie.Need-returns
 returns c = simp (le-leb 65 _ (c .before .if1 .taken), le-leb _ 90 (c .if2 .taken))
 
@@ -17,4 +14,4 @@ returns-3 : tie.Need-returns-3
 returns-3 c = simp (lt-leb 65 _ (c .if1 .left))
 
 pub lower-spec : {M : Type 1} → statement M
-lower-spec = tie.close (tie.spec add-result returns returns-2 returns-3)
+lower-spec = tie.close (tie.spec (λ c. search needs) returns returns-2 returns-3)

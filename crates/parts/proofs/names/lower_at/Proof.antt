@@ -5,14 +5,8 @@ use borrow.Author.Needs.{needs}
 use Rattle.parts.proofs.names.lower_at.Statement.{statement}
 use Rattle.parts.proofs.names.lower_at.Tie as tie
 
-byte-requires : tie.Need-byte-requires
-byte-requires c κs = search needs
-
-lower-requires : tie.Need-lower-requires
-lower-requires c κs = search needs
-
 returns : tie.Need-returns
 returns c = c .lower .ensures ∙ ap fold (c .before .byte .ensures)
 
 pub lower-at-spec : {M : Type 1} → statement M
-lower-at-spec = tie.close (tie.spec byte-requires lower-requires returns)
+lower-at-spec = tie.close (tie.spec (λ c κs. search needs) (λ c κs. search needs) returns)

@@ -9,21 +9,12 @@ use borrow.Author.Needs.{needs}
 use Rattle.reader.proofs.single.closed.Statement.{statement}
 use Rattle.reader.proofs.single.closed.Tie as tie
 
-refused-requires : tie.Need-refused-requires
-refused-requires c κs = search needs
-
 returns : tie.Need-returns
 returns c =
     record {
       onward = λ e. contra (sym ((c .refused) .ensures) ∙ e);
       done = λ b r t es e s o h g d ew en room lg. absurd (let i = stand-length s in let z = (c .before .if1) .taken in omega arith);
     }
-
-put-requires : tie.Need-put-requires
-put-requires c κs = search needs
-
-refused-requires-2 : tie.Need-refused-requires-2
-refused-requires-2 c κs = search needs
 
 returns-2 : tie.Need-returns-2
 returns-2 c =
@@ -33,9 +24,6 @@ returns-2 c =
           let z = closed-room g ew en room in
           contra (sym (not-true _ ((c .before .if2) .taken)) ∙ (c .before .before .put) .ensures .done (z .0) (z .1) (z .2) lg .0);
     }
-
-add-t13 : tie.Need-add-t13
-add-t13 c = search needs
 
 add-t17 : tie.Need-add-t17
 add-t17 c =
@@ -54,11 +42,10 @@ pub closed-spec : {M : Type 1} → statement M
 closed-spec =
     tie.close
     (tie.spec
-    refused-requires
+    (λ c κs. search needs)
     returns
-    put-requires
-    refused-requires-2
+    (λ c κs. search needs) (λ c κs. search needs)
     returns-2
-    add-t13
+    (λ c. search needs)
     add-t17
     returns-3)

@@ -6,15 +6,6 @@ use borrow.Author.Needs.{needs}
 use Rattle.reader.proofs.single.head_at.Statement.{statement}
 use Rattle.reader.proofs.single.head_at.Tie as tie
 
-cell-requires : tie.Need-cell-requires
-cell-requires c κs = search needs
-
-cell-requires-2 : tie.Need-cell-requires-2
-cell-requires-2 c κs = search needs
-
-fits-requires : tie.Need-fits-requires
-fits-requires c κs = search needs
-
 head-requires : tie.Need-head-requires
 head-requires c κs = (c .before .fits2) .ensures .0 ((c .if1) .taken)
 
@@ -27,4 +18,4 @@ returns-2 c = λ t h b s l. contra (sym ((c .if1) .left) ∙ (c .before .fits2) 
 pub head-at-spec : {M : Type 1} → statement M
 head-at-spec =
     tie.close
-    (tie.spec cell-requires cell-requires-2 fits-requires head-requires returns returns-2)
+    (tie.spec (λ c κs. search needs) (λ c κs. search needs) (λ c κs. search needs) head-requires returns returns-2)

@@ -6,18 +6,6 @@ use borrow.Author.Needs.{needs}
 use Rattle.reader.proofs.single.leaf_at.Statement.{statement}
 use Rattle.reader.proofs.single.leaf_at.Tie as tie
 
-cell-requires : tie.Need-cell-requires
-cell-requires c κs = search needs
-
-cell-requires-2 : tie.Need-cell-requires-2
-cell-requires-2 c κs = search needs
-
-fits-requires : tie.Need-fits-requires
-fits-requires c κs = search needs
-
-byte-requires : tie.Need-byte-requires
-byte-requires c κs = search needs
-
 leaf-requires : tie.Need-leaf-requires
 leaf-requires c κs = (c .before .before .fits2) .ensures .0 ((c .before .if1) .taken)
 
@@ -31,10 +19,7 @@ pub leaf-at-spec : {M : Type 1} → statement M
 leaf-at-spec =
     tie.close
     (tie.spec
-    cell-requires
-    cell-requires-2
-    fits-requires
-    byte-requires
+    (λ c κs. search needs) (λ c κs. search needs) (λ c κs. search needs) (λ c κs. search needs)
     leaf-requires
     returns
     returns-2)

@@ -8,17 +8,8 @@ use borrow.Author.Needs.{needs}
 use Rattle.reader.proofs.single.single.Statement.{statement}
 use Rattle.reader.proofs.single.single.Tie as tie
 
-refused-requires : tie.Need-refused-requires
-refused-requires c κs = search needs
-
 returns : tie.Need-returns
 returns c = record { onward = λ e. contra (sym ((c .refused) .ensures) ∙ e); done = λ b d r t e f l room lg. absurd (let i = token-inside f in let z = (c .before .if1) .taken in omega arith) }
-
-leaf-at-requires : tie.Need-leaf-at-requires
-leaf-at-requires c κs = search needs
-
-refused-requires-2 : tie.Need-refused-requires-2
-refused-requires-2 c κs = search needs
 
 returns-2 : tie.Need-returns-2
 returns-2 c =
@@ -27,12 +18,6 @@ returns-2 c =
       done = λ b d r t e f l room lg. absurd (let s = said ((c .before .before .leaf-at) .ensures) f l .kind in let k = leaf-size l .1 in let z = (c .before .if2) .taken in omega arith);
     }
 
-put-requires : tie.Need-put-requires
-put-requires c κs = search needs
-
-refused-requires-3 : tie.Need-refused-requires-3
-refused-requires-3 c κs = search needs
-
 returns-3 : tie.Need-returns-3
 returns-3 c =
     record {
@@ -40,9 +25,6 @@ returns-3 c =
       done = λ b d r t e f l room lg.
           contra (sym (not-true _ ((c .before .if3) .taken)) ∙ (c .before .before .put) .ensures .done (leaf-room l room) (omega arith) (omega arith) lg .0);
     }
-
-add-t10 : tie.Need-add-t10
-add-t10 c = search needs
 
 add-t14 : tie.Need-add-t14
 add-t14 c =
@@ -60,14 +42,12 @@ pub single-spec : {M : Type 1} → statement M
 single-spec =
     tie.close
     (tie.spec
-    refused-requires
+    (λ c κs. search needs)
     returns
-    leaf-at-requires
-    refused-requires-2
+    (λ c κs. search needs) (λ c κs. search needs)
     returns-2
-    put-requires
-    refused-requires-3
+    (λ c κs. search needs) (λ c κs. search needs)
     returns-3
-    add-t10
+    (λ c. search needs)
     add-t14
     returns-4)

@@ -18,33 +18,6 @@ abbrev μ-loop : tie.MeasureT-loop
 loop-holds : tie.Need-loop-holds Inv-loop μ-loop
 loop-holds c = (omega arith, refl, λ j h. absurd (omega arith), λ j h. refl)
 
-mul-col : tie.Need-mul-col Inv-loop μ-loop
-mul-col c = search needs
-
-add-col : tie.Need-add-col Inv-loop μ-loop
-add-col c = search needs
-
-mul-col-2 : tie.Need-mul-col-2 Inv-loop μ-loop
-mul-col-2 c = search needs
-
-element-copy-out-col : tie.Need-element-copy-out-col Inv-loop μ-loop
-element-copy-out-col c = search needs
-
-add-col-2 : tie.Need-add-col-2 Inv-loop μ-loop
-add-col-2 c = search needs
-
-mul-col-3 : tie.Need-mul-col-3 Inv-loop μ-loop
-mul-col-3 c = search needs
-
-slice-write-col : tie.Need-slice-write-col Inv-loop μ-loop
-slice-write-col c = search needs
-
-add-i : tie.Need-add-i Inv-loop μ-loop
-add-i c = search needs
-
-loop-less : tie.Need-loop-less Inv-loop μ-loop
-loop-less c = search needs
-
 loop-again : tie.Need-loop-again Inv-loop μ-loop
 loop-again c =
     let l = (c .before .before .loop) in
@@ -74,15 +47,8 @@ copy-spec =
     Inv-loop
     μ-loop
     loop-holds
-    mul-col
-    add-col
-    mul-col-2
-    element-copy-out-col
-    add-col-2
-    mul-col-3
-    slice-write-col
-    add-i
-    loop-less
+    (λ c. search needs) (λ c. search needs) (λ c. search needs) (λ c. search needs) (λ c. search needs) (λ c. search needs)
+    (λ c. search needs) (λ c. search needs) (λ c. search needs)
     loop-again
     same-length
     returns)

@@ -18,30 +18,6 @@ abbrev μ-loop : tie.MeasureT-loop
 loop-holds : tie.Need-loop-holds Inv-loop μ-loop
 loop-holds c = (omega arith, refl, λ j h. absurd (omega arith), λ j h. refl)
 
-mul-low : tie.Need-mul-low Inv-loop μ-loop
-mul-low c = search needs
-
-mul-low-2 : tie.Need-mul-low-2 Inv-loop μ-loop
-mul-low-2 c = search needs
-
-element-copy-out-low : tie.Need-element-copy-out-low Inv-loop μ-loop
-element-copy-out-low c = search needs
-
-low-requires : tie.Need-low-requires Inv-loop μ-loop
-low-requires c κs = search needs
-
-add-col : tie.Need-add-col Inv-loop μ-loop
-add-col c = search needs
-
-slice-write-col : tie.Need-slice-write-col Inv-loop μ-loop
-slice-write-col c = search needs
-
-add-i : tie.Need-add-i Inv-loop μ-loop
-add-i c = search needs
-
-loop-less : tie.Need-loop-less Inv-loop μ-loop
-loop-less c = search needs
-
 loop-again : tie.Need-loop-again Inv-loop μ-loop
 loop-again c =
     let l = (c .before .before .before .loop) in
@@ -72,14 +48,8 @@ copy-kinds-spec =
     Inv-loop
     μ-loop
     loop-holds
-    mul-low
-    mul-low-2
-    element-copy-out-low
-    low-requires
-    add-col
-    slice-write-col
-    add-i
-    loop-less
+    (λ c. search needs) (λ c. search needs) (λ c. search needs) (λ c κs. search needs) (λ c. search needs) (λ c. search needs)
+    (λ c. search needs) (λ c. search needs)
     loop-again
     same-length
     returns)

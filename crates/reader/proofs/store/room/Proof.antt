@@ -14,8 +14,5 @@ returns-2 c = (λ e. contra e, λ a b. absurd (omega arith))
 returns-3 : tie.Need-returns-3
 returns-3 c = (λ e. contra e, λ a b. absurd (omega arith))
 
-returns-4 : tie.Need-returns-4
-returns-4 c = search needs
-
 pub room-spec : {M : Type 1} → statement M
-room-spec = tie.close (tie.spec returns returns-2 returns-3 returns-4)
+room-spec = tie.close (tie.spec returns returns-2 returns-3 (λ c. search needs))

@@ -18,18 +18,6 @@ abbrev μ-loop : tie.MeasureT-loop
 loop-holds : tie.Need-loop-holds Inv-loop μ-loop
 loop-holds c = (search needs, omega arith, below-none _)
 
-mul-column : tie.Need-mul-column Inv-loop μ-loop
-mul-column c = search needs
-
-slice-write-column : tie.Need-slice-write-column Inv-loop μ-loop
-slice-write-column c = search needs
-
-add-i : tie.Need-add-i Inv-loop μ-loop
-add-i c = omega arith
-
-loop-less : tie.Need-loop-less Inv-loop μ-loop
-loop-less c = omega arith
-
 loop-again : tie.Need-loop-again Inv-loop μ-loop
 loop-again c =
     let l = c .before .loop in
@@ -48,10 +36,7 @@ clear-spec =
     Inv-loop
     μ-loop
     loop-holds
-    mul-column
-    slice-write-column
-    add-i
-    loop-less
+    (λ c. search needs) (λ c. search needs) (λ c. omega arith) (λ c. omega arith)
     loop-again
     same-length
     returns)

@@ -4,48 +4,6 @@ use borrow.Author.Needs.{needs}
 use Rattle.sequences.proofs.adding.step.Statement.{statement}
 use Rattle.sequences.proofs.adding.step.Tie as tie
 
-enum-told : tie.Need-enum-told
-enum-told c = search needs
-
-none-requires : tie.Need-none-requires
-none-requires c κs = search needs
-
-enum-told-2 : tie.Need-enum-told-2
-enum-told-2 c = search needs
-
-none-requires-2 : tie.Need-none-requires-2
-none-requires-2 c κs = search needs
-
-enum-known-s : tie.Need-enum-known-s
-enum-known-s c = search needs
-
-wide-of-requires : tie.Need-wide-of-requires
-wide-of-requires c κs = search needs
-
-sum-requires : tie.Need-sum-requires
-sum-requires c κs = search needs
-
-thousandths-requires : tie.Need-thousandths-requires
-thousandths-requires c κs = search needs
-
-sum-requires-2 : tie.Need-sum-requires-2
-sum-requires-2 c κs = search needs
-
-enum-known-s-2 : tie.Need-enum-known-s-2
-enum-known-s-2 c = search needs
-
-wide-of-requires-2 : tie.Need-wide-of-requires-2
-wide-of-requires-2 c κs = search needs
-
-sum-requires-3 : tie.Need-sum-requires-3
-sum-requires-3 c κs = search needs
-
-enum-told-3 : tie.Need-enum-told-3
-enum-told-3 c = search needs
-
-none-requires-3 : tie.Need-none-requires-3
-none-requires-3 c κs = search needs
-
 returns : tie.Need-returns
 returns c = let a = c .before .before .before .before .before .args in unknown-more (a .s) (a .t) (c .before .enum-told .given .1) (c .none .ensures)
 
@@ -67,20 +25,9 @@ pub step-spec : {M : Type 1} → statement M
 step-spec =
     tie.close
     (tie.spec
-    enum-told
-    none-requires
-    enum-told-2
-    none-requires-2
-    enum-known-s
-    wide-of-requires
-    sum-requires
-    thousandths-requires
-    sum-requires-2
-    enum-known-s-2
-    wide-of-requires-2
-    sum-requires-3
-    enum-told-3
-    none-requires-3
+    (λ c. search needs) (λ c κs. search needs) (λ c. search needs) (λ c κs. search needs) (λ c. search needs) (λ c κs. search needs)
+    (λ c κs. search needs) (λ c κs. search needs) (λ c κs. search needs) (λ c. search needs) (λ c κs. search needs) (λ c κs. search needs)
+    (λ c. search needs) (λ c κs. search needs)
     returns
     returns-2
     returns-3

@@ -8,23 +8,14 @@ use borrow.Author.Needs.{needs}
 use Rattle.sequences.proofs.adding.sum.Statement.{statement}
 use Rattle.sequences.proofs.adding.sum.Tie as tie
 
-sum-of-requires : tie.Need-sum-of-requires
-sum-of-requires c κs = search needs
-
-single-requires : tie.Need-single-requires
-single-requires c κs = search needs
-
 returns : tie.Need-returns
 returns c = λ bs. let a = c .before .before .before .before .args in
     means bs section-11.sum (a .a ∷ []) (c .single .result) tt
     (single-is bs (c .single .result) (c .single .ensures) ∙ sum-list bs (a .a) (c .before .sum-of .result) (c .before .before .if1 .taken) (c .before .sum-of .ensures bs))
-
-single-requires-2 : tie.Need-single-requires-2
-single-requires-2 c κs = search needs
 
 returns-2 : tie.Need-returns-2
 returns-2 c = λ bs. let a = c .before .before .before .args in
     means bs section-11.sum (a .a ∷ []) (c .single2 .result) tt (single-is bs (c .single2 .result) (c .single2 .ensures) ∙ sum-scalar bs (a .a) (c .before .if1 .left))
 
 pub sum-spec : {M : Type 1} → statement M
-sum-spec = tie.close (tie.spec sum-of-requires single-requires returns single-requires-2 returns-2)
+sum-spec = tie.close (tie.spec (λ c κs. search needs) (λ c κs. search needs) returns (λ c κs. search needs) returns-2)

@@ -20,12 +20,6 @@ Inv-loop l t₀ i₀ t i =
 abbrev μ-loop : tie.MeasureT-loop
 μ-loop l t₀ i₀ t i = i
 
-start-requires : tie.Need-start-requires Inv-loop μ-loop
-start-requires c κs = search needs
-
-size-requires : tie.Need-size-requires Inv-loop μ-loop
-size-requires c κs = search needs
-
 loop-holds : tie.Need-loop-holds Inv-loop μ-loop
 loop-holds c = (
   c .size .ensures .1,
@@ -34,18 +28,6 @@ loop-holds c = (
   omega (arith, c .before .start .ensures .2),
   λ bs. subst (λ (k : ℕ). Totals (drop k (meaningL bs (c .before .before .args .l))) (c .before .start .result)) (sym (c .size .ensures .0)) (at-end bs (c .before .before .args .l) (c .before .start .ensures .0)),
 )
-
-sub-i : tie.Need-sub-i Inv-loop μ-loop
-sub-i c = search needs
-
-get-requires : tie.Need-get-requires Inv-loop μ-loop
-get-requires c κs = search needs
-
-step-requires : tie.Need-step-requires Inv-loop μ-loop
-step-requires c κs = search needs
-
-loop-less : tie.Need-loop-less Inv-loop μ-loop
-loop-less c = search needs
 
 loop-again : tie.Need-loop-again Inv-loop μ-loop
 loop-again c =
@@ -57,9 +39,6 @@ loop-again c =
       omega (arith, m .thousandths, l .inv .3),
       λ bs. back bs (c .before .before .before .before .before .before .args .l) (l .i) (l .i - 1) (omega arith) (l .inv .1) (c .before .get .ensures) m (l .inv .4 bs),
     )
-
-finished-requires : tie.Need-finished-requires Inv-loop μ-loop
-finished-requires c κs = search needs
 
 returns : tie.Need-returns Inv-loop μ-loop
 returns c = λ bs.
@@ -73,13 +52,9 @@ sum-of-spec =
     (tie.spec
     Inv-loop
     μ-loop
-    start-requires
-    size-requires
+    (λ c κs. search needs) (λ c κs. search needs)
     loop-holds
-    sub-i
-    get-requires
-    step-requires
-    loop-less
+    (λ c. search needs) (λ c κs. search needs) (λ c κs. search needs) (λ c. search needs)
     loop-again
-    finished-requires
+    (λ c κs. search needs)
     returns)

@@ -8,26 +8,11 @@ use borrow.Author.Needs.{needs}
 use Rattle.sequences.proofs.counting.count.Statement.{statement}
 use Rattle.sequences.proofs.counting.count.Tie as tie
 
-size-requires : tie.Need-size-requires
-size-requires c κs = search needs
-
-wide-count-requires : tie.Need-wide-count-requires
-wide-count-requires c κs = search needs
-
-integer-requires : tie.Need-integer-requires
-integer-requires c κs = search needs
-
-single-requires : tie.Need-single-requires
-single-requires c κs = search needs
-
 returns : tie.Need-returns
 returns c = λ bs. let a = c .before .before .before .before .before .before .args in
     means bs section-11.count (a .a ∷ []) (c .single .result) tt
     (single-is bs (c .single .result) (c .single .ensures)
     ∙ count-list bs (a .a) (c .before .before .before .before .if1 .taken) (c .before .integer .ensures) (c .before .before .wide-count .ensures) (c .before .before .before .size .ensures .0) (c .before .before .before .size .ensures .1))
-
-single-requires-2 : tie.Need-single-requires-2
-single-requires-2 c κs = search needs
 
 returns-2 : tie.Need-returns-2
 returns-2 c = λ bs. let a = c .before .before .before .args in
@@ -37,10 +22,7 @@ pub count-spec : {M : Type 1} → statement M
 count-spec =
     tie.close
     (tie.spec
-    size-requires
-    wide-count-requires
-    integer-requires
-    single-requires
+    (λ c κs. search needs) (λ c κs. search needs) (λ c κs. search needs) (λ c κs. search needs)
     returns
-    single-requires-2
+    (λ c κs. search needs)
     returns-2)

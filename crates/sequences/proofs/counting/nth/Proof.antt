@@ -8,22 +8,10 @@ use borrow.Author.Needs.{needs}
 use Rattle.sequences.proofs.counting.nth.Statement.{statement}
 use Rattle.sequences.proofs.counting.nth.Tie as tie
 
-scalar-of-requires : tie.Need-scalar-of-requires
-scalar-of-requires c κs = search needs
-
-nth-of-requires : tie.Need-nth-of-requires
-nth-of-requires c κs = search needs
-
-single-requires : tie.Need-single-requires
-single-requires c κs = search needs
-
 returns : tie.Need-returns
 returns c = λ bs. let a = c .before .before .before .before .before .args in
     means bs section-11.nth (a .a ∷ a .b ∷ []) (c .single .result) tt
     (single-is bs (c .single .result) (c .single .ensures) ∙ nth-list bs (a .a) (a .b) (c .before .nth-of .result) (c .before .before .before .if1 .taken) (c .before .before .scalar-of .ensures) (c .before .nth-of .ensures bs))
-
-single-requires-2 : tie.Need-single-requires-2
-single-requires-2 c κs = search needs
 
 returns-2 : tie.Need-returns-2
 returns-2 c = λ bs. let a = c .before .before .before .args in
@@ -33,9 +21,7 @@ pub nth-spec : {M : Type 1} → statement M
 nth-spec =
     tie.close
     (tie.spec
-    scalar-of-requires
-    nth-of-requires
-    single-requires
+    (λ c κs. search needs) (λ c κs. search needs) (λ c κs. search needs)
     returns
-    single-requires-2
+    (λ c κs. search needs)
     returns-2)

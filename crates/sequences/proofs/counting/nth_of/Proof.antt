@@ -15,24 +15,6 @@ use Rattle.sequences.proofs.counting.nth_of.Tie as tie
 abbrev by : List ℕ → Code.List → Scalar → paper.Value
 by bs l s = given (nthL (paper.one (meaning bs s)) (meaningL bs l))
 
-enum-told : tie.Need-enum-told
-enum-told c = search needs
-
-enum-told-2 : tie.Need-enum-told-2
-enum-told-2 c = search needs
-
-enum-known-s : tie.Need-enum-known-s
-enum-known-s c = search needs
-
-pick-requires : tie.Need-pick-requires
-pick-requires c κs = search needs
-
-enum-told-3 : tie.Need-enum-told-3
-enum-told-3 c = search needs
-
-enum-told-4 : tie.Need-enum-told-4
-enum-told-4 c = search needs
-
 returns : tie.Need-returns
 returns c = λ bs. sym (ap (by bs (c .before .before .args .l)) (c .enum-told .given .1))
 
@@ -52,12 +34,7 @@ pub nth-of-spec : {M : Type 1} → statement M
 nth-of-spec =
     tie.close
     (tie.spec
-    enum-told
-    enum-told-2
-    enum-known-s
-    pick-requires
-    enum-told-3
-    enum-told-4
+    (λ c. search needs) (λ c. search needs) (λ c. search needs) (λ c κs. search needs) (λ c. search needs) (λ c. search needs)
     returns
     returns-2
     returns-3

@@ -35,12 +35,6 @@ sub-i c =
     let e : ltZ z (pos 1) ≡ false = simp (toZ-ofZ f) at (c .if1 .left) in
     simp (toZ-ofZ f) (at-least-one z e)
 
-size-requires : tie.Need-size-requires
-size-requires c κs = search needs
-
-get-requires : tie.Need-get-requires
-get-requires c κs = search needs
-
 returns-2 : tie.Need-returns-2
 returns-2 c = λ bs.
     let z = c .before .before .before .before .before .args .n .z in
@@ -57,4 +51,4 @@ returns-3 c = λ bs.
 
 pub pick-spec : {M : Type 1} → statement M
 pick-spec =
-    tie.close (tie.spec returns cast-k sub-i size-requires get-requires returns-2 returns-3)
+    tie.close (tie.spec returns cast-k sub-i (λ c κs. search needs) (λ c κs. search needs) returns-2 returns-3)

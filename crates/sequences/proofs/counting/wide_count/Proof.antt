@@ -4,11 +4,8 @@ use borrow.Author.Needs.{needs}
 use Rattle.sequences.proofs.counting.wide_count.Statement.{statement}
 use Rattle.sequences.proofs.counting.wide_count.Tie as tie
 
-cast-t2 : tie.Need-cast-t2
-cast-t2 c = search needs
-
 returns : tie.Need-returns
 returns c = small-is (c .args .n) (c .pre)
 
 pub wide-count-spec : {M : Type 1} → statement M
-wide-count-spec = tie.close (tie.spec cast-t2 returns)
+wide-count-spec = tie.close (tie.spec (λ c. search needs) returns)

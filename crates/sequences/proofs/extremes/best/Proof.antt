@@ -9,19 +9,10 @@ use borrow.Author.Needs.{needs}
 use Rattle.sequences.proofs.extremes.best.Statement.{statement}
 use Rattle.sequences.proofs.extremes.best.Tie as tie
 
-get-requires : tie.Need-get-requires
-get-requires c κs = search needs
-
-is-unknown-requires : tie.Need-is-unknown-requires
-is-unknown-requires c κs = search needs
-
 returns : tie.Need-returns
 returns c = let a = c .before .before .before .before .args in let bs = a .bytes .now in
     sym (best-is bs (a .e) (a .l) (a .i) (c .before .before .before .before .pre .1) (c .before .before .get .ensures) (c .before .is-unknown .ensures)
     ∙ ap (λ (u : Bool). not u && unbeatenb (end (a .e)) (meaningL bs (a .l)) (a .i)) (c .if1 .taken))
-
-unbeaten-requires : tie.Need-unbeaten-requires
-unbeaten-requires c κs = search needs
 
 returns-2 : tie.Need-returns-2
 returns-2 c = let a = c .before .before .before .before .before .args in let bs = a .bytes .now in
@@ -31,4 +22,4 @@ returns-2 c = let a = c .before .before .before .before .before .args in let bs 
 
 pub best-spec : {M : Type 1} → statement M
 best-spec =
-    tie.close (tie.spec get-requires is-unknown-requires returns unbeaten-requires returns-2)
+    tie.close (tie.spec (λ c κs. search needs) (λ c κs. search needs) returns (λ c κs. search needs) returns-2)

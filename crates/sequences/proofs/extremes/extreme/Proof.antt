@@ -9,19 +9,10 @@ use borrow.Author.Needs.{needs}
 use Rattle.sequences.proofs.extremes.extreme.Statement.{statement}
 use Rattle.sequences.proofs.extremes.extreme.Tie as tie
 
-extreme-of-requires : tie.Need-extreme-of-requires
-extreme-of-requires c κs = search needs
-
-single-requires : tie.Need-single-requires
-single-requires c κs = search needs
-
 returns : tie.Need-returns
 returns c = let a = c .before .before .before .before .before .args in let bs = a .bytes .now in
     means bs (section-11.extreme (end (a .e))) (a .a ∷ []) (c .single .result) tt
     (single-is bs (c .single .result) (c .single .ensures) ∙ extreme-list bs (a .e) (a .a) (c .before .extreme-of .result) (c .before .before .if1 .taken) (c .before .extreme-of .ensures))
-
-single-requires-2 : tie.Need-single-requires-2
-single-requires-2 c κs = search needs
 
 returns-2 : tie.Need-returns-2
 returns-2 c = let a = c .before .before .before .before .args in let bs = a .bytes .now in
@@ -30,4 +21,4 @@ returns-2 c = let a = c .before .before .before .before .args in let bs = a .byt
 
 pub extreme-spec : {M : Type 1} → statement M
 extreme-spec =
-    tie.close (tie.spec extreme-of-requires single-requires returns single-requires-2 returns-2)
+    tie.close (tie.spec (λ c κs. search needs) (λ c κs. search needs) returns (λ c κs. search needs) returns-2)

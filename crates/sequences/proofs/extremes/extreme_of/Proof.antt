@@ -19,27 +19,15 @@ Inv-loop bytes e l n i₀ i =
 abbrev μ-loop : tie.MeasureT-loop
 μ-loop bytes e l n i₀ i = n - i
 
-size-requires : tie.Need-size-requires Inv-loop μ-loop
-size-requires c κs = search needs
-
 loop-holds : tie.Need-loop-holds Inv-loop μ-loop
 loop-holds c = (omega arith, c .size .ensures .1, c .size .ensures .0, below-none _)
 
 best-requires : tie.Need-best-requires Inv-loop μ-loop
 best-requires c κs = (omega arith, omega (arith, c .before .loop .inv .2))
 
-get-requires : tie.Need-get-requires Inv-loop μ-loop
-get-requires c κs = search needs
-
 returns : tie.Need-returns Inv-loop μ-loop
 returns c = let a = c .before .before .before .before .before .before .before .args in let l = c .before .before .before .before .loop in
     first-best (a .bytes .now) (a .e) (a .l) (l .i) (omega (arith, l .inv .2)) (c .get .ensures) (sym (c .before .before .best .ensures) ∙ c .before .if1 .taken) (l .inv .3)
-
-add-i : tie.Need-add-i Inv-loop μ-loop
-add-i c = search needs
-
-loop-less : tie.Need-loop-less Inv-loop μ-loop
-loop-less c = search needs
 
 loop-again : tie.Need-loop-again Inv-loop μ-loop
 loop-again c = let l = c .before .before .before .loop in
@@ -55,12 +43,11 @@ extreme-of-spec =
     (tie.spec
     Inv-loop
     μ-loop
-    size-requires
+    (λ c κs. search needs)
     loop-holds
     best-requires
-    get-requires
+    (λ c κs. search needs)
     returns
-    add-i
-    loop-less
+    (λ c. search needs) (λ c. search needs)
     loop-again
     returns-2)

@@ -23,34 +23,13 @@ Inv-loop bytes e l i n x j₀ j =
 abbrev μ-loop : tie.MeasureT-loop
 μ-loop bytes e l i n x j₀ j = n - j
 
-size-requires : tie.Need-size-requires Inv-loop μ-loop
-size-requires c κs = search needs
-
-get-requires : tie.Need-get-requires Inv-loop μ-loop
-get-requires c κs = search needs
-
 loop-holds : tie.Need-loop-holds Inv-loop μ-loop
 loop-holds c = (omega arith, c .before .size .ensures .1, c .before .size .ensures .0, omega (arith, c .before .size .ensures .0), below-none _)
-
-get-requires-2 : tie.Need-get-requires-2 Inv-loop μ-loop
-get-requires-2 c κs = search needs
-
-comp-scalars-requires : tie.Need-comp-scalars-requires Inv-loop μ-loop
-comp-scalars-requires c κs = search needs
-
-fine-requires : tie.Need-fine-requires Inv-loop μ-loop
-fine-requires c κs = search needs
 
 returns : tie.Need-returns Inv-loop μ-loop
 returns c =
     let m = holds-is (c .before .before .before .before .before .before .before .before .before .args .bytes .now) (c .before .before .before .before .before .before .before .before .before .args .e) (c .before .before .before .before .before .before .before .before .before .args .l) (c .before .before .before .before .before .before .before .before .before .args .i) (c .before .before .before .before .before .loop .j) (c .before .before .before .before .before .before .before .before .before .pre) (omega (arith, c .before .before .before .before .before .loop .inv .2)) (c .before .before .before .before .before .before .get .ensures) (c .before .before .before .get2 .ensures) (c .before .before .comp-scalars .ensures) (c .before .fine .ensures) in
     sym (one-fails (holdsb (end (c .before .before .before .before .before .before .before .before .before .args .e)) (meaningL (c .before .before .before .before .before .before .before .before .before .args .bytes .now) (c .before .before .before .before .before .before .before .before .before .args .l)) (c .before .before .before .before .before .before .before .before .before .args .i)) (length (meaningL (c .before .before .before .before .before .before .before .before .before .args .bytes .now) (c .before .before .before .before .before .before .before .before .before .args .l))) (c .before .before .before .before .before .loop .j) (omega (arith, size-is (c .before .before .before .before .before .before .before .before .before .args .bytes .now) (c .before .before .before .before .before .before .before .before .before .args .l), c .before .before .before .before .before .loop .inv .2)) (sym m ∙ not-true _ (c .if1 .taken)))
-
-add-j : tie.Need-add-j Inv-loop μ-loop
-add-j c = search needs
-
-loop-less : tie.Need-loop-less Inv-loop μ-loop
-loop-less c = search needs
 
 loop-again : tie.Need-loop-again Inv-loop μ-loop
 loop-again c =
@@ -66,14 +45,10 @@ unbeaten-spec =
     (tie.spec
     Inv-loop
     μ-loop
-    size-requires
-    get-requires
+    (λ c κs. search needs) (λ c κs. search needs)
     loop-holds
-    get-requires-2
-    comp-scalars-requires
-    fine-requires
+    (λ c κs. search needs) (λ c κs. search needs) (λ c κs. search needs)
     returns
-    add-j
-    loop-less
+    (λ c. search needs) (λ c. search needs)
     loop-again
     returns-2)

@@ -22,34 +22,13 @@ Inv-loop bytes l b n i₀ i =
 abbrev μ-loop : tie.MeasureT-loop
 μ-loop bytes l b n i₀ i = n - i
 
-size-requires : tie.Need-size-requires Inv-loop μ-loop
-size-requires c κs = search needs
-
 loop-holds : tie.Need-loop-holds Inv-loop μ-loop
 loop-holds c = (omega arith, c .size .ensures .1, c .size .ensures .0, below-none _)
-
-get-requires : tie.Need-get-requires Inv-loop μ-loop
-get-requires c κs = search needs
-
-single-requires : tie.Need-single-requires Inv-loop μ-loop
-single-requires c κs = search needs
-
-comp-requires : tie.Need-comp-requires Inv-loop μ-loop
-comp-requires c κs = search needs
-
-is-level-requires : tie.Need-is-level-requires Inv-loop μ-loop
-is-level-requires c κs = search needs
 
 returns : tie.Need-returns Inv-loop μ-loop
 returns c =
     let m = miss-is (c .before .before .before .before .before .before .before .before .before .args .bytes .now) (c .before .before .before .before .before .before .before .before .before .args .l) (c .before .before .before .before .before .before .before .before .before .args .b) (c .before .before .before .before .before .before .loop .i) (c .before .before .before .single .result) (omega (arith, c .before .before .before .before .before .before .loop .inv .2)) (c .before .before .before .before .get .ensures) (c .before .before .before .single .ensures) (c .before .before .comp .ensures) (c .before .is-level .ensures) in
     sym (ap not (one-fails (λ k. missb (meaningV (c .before .before .before .before .before .before .before .before .before .args .bytes .now) (c .before .before .before .before .before .before .before .before .before .args .b)) (getD (meaningL (c .before .before .before .before .before .before .before .before .before .args .bytes .now) (c .before .before .before .before .before .before .before .before .before .args .l)) k unknown)) (length (meaningL (c .before .before .before .before .before .before .before .before .before .args .bytes .now) (c .before .before .before .before .before .before .before .before .before .args .l))) (c .before .before .before .before .before .before .loop .i) (omega (arith, size-is (c .before .before .before .before .before .before .before .before .before .args .bytes .now) (c .before .before .before .before .before .before .before .before .before .args .l), c .before .before .before .before .before .before .loop .inv .2)) (m ∙ ap not (c .if1 .taken))))
-
-add-i : tie.Need-add-i Inv-loop μ-loop
-add-i c = search needs
-
-loop-less : tie.Need-loop-less Inv-loop μ-loop
-loop-less c = search needs
 
 loop-again : tie.Need-loop-again Inv-loop μ-loop
 loop-again c =
@@ -65,14 +44,10 @@ found-spec =
     (tie.spec
     Inv-loop
     μ-loop
-    size-requires
+    (λ c κs. search needs)
     loop-holds
-    get-requires
-    single-requires
-    comp-requires
-    is-level-requires
+    (λ c κs. search needs) (λ c κs. search needs) (λ c κs. search needs) (λ c κs. search needs)
     returns
-    add-i
-    loop-less
+    (λ c. search needs) (λ c. search needs)
     loop-again
     returns-2)

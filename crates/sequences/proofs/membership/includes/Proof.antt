@@ -8,19 +8,10 @@ use borrow.Author.Needs.{needs}
 use Rattle.sequences.proofs.membership.includes.Statement.{statement}
 use Rattle.sequences.proofs.membership.includes.Tie as tie
 
-found-requires : tie.Need-found-requires
-found-requires c κs = search needs
-
-single-requires : tie.Need-single-requires
-single-requires c κs = search needs
-
 returns : tie.Need-returns
 returns c = let a = c .before .before .before .before .before .args in let bs = a .bytes .now in
     means bs section-11.includes (a .a ∷ a .b ∷ []) (c .single .result) tt
     (single-is bs (c .single .result) (c .single .ensures) ∙ includes-list bs (a .a) (a .b) (c .before .before .if1 .taken) (c .before .found .ensures))
-
-single-requires-2 : tie.Need-single-requires-2
-single-requires-2 c κs = search needs
 
 returns-2 : tie.Need-returns-2
 returns-2 c = let a = c .before .before .before .before .args in let bs = a .bytes .now in
@@ -29,4 +20,4 @@ returns-2 c = let a = c .before .before .before .before .args in let bs = a .byt
 
 pub includes-spec : {M : Type 1} → statement M
 includes-spec =
-    tie.close (tie.spec found-requires single-requires returns single-requires-2 returns-2)
+    tie.close (tie.spec (λ c κs. search needs) (λ c κs. search needs) returns (λ c κs. search needs) returns-2)

@@ -23,20 +23,8 @@ returns c = λ h. absurd (omega arith)
 loop-holds : tie.Need-loop-holds Inv-loop μ-loop
 loop-holds c = (omega arith, omega arith, λ j a b. absurd (omega arith))
 
-sub-if2 : tie.Need-sub-if2 Inv-loop μ-loop
-sub-if2 c = omega arith
-
-shared-slice-read-if2 : tie.Need-shared-slice-read-if2 Inv-loop μ-loop
-shared-slice-read-if2 c = omega arith
-
 returns-2 : tie.Need-returns-2 Inv-loop μ-loop
 returns-2 c = λ h. record { before = omega arith; whole = c .before .before .before .loop .inv .2; first = inr (c .if2 .taken) }
-
-sub-i : tie.Need-sub-i Inv-loop μ-loop
-sub-i c = omega arith
-
-loop-less : tie.Need-loop-less Inv-loop μ-loop
-loop-less c = omega arith
 
 loop-again : tie.Need-loop-again Inv-loop μ-loop
 loop-again c = let l = c .before .before .before .loop in (omega arith, omega arith, unbroken-down (c .before .before .before .before .before .args .text .now) (l .i) (c .before .before .before .before .before .args .place) (omega arith) (c .if2 .left) (l .inv .2))
@@ -52,10 +40,8 @@ begin-spec =
     μ-loop
     returns
     loop-holds
-    sub-if2
-    shared-slice-read-if2
+    (λ c. omega arith) (λ c. omega arith)
     returns-2
-    sub-i
-    loop-less
+    (λ c. omega arith) (λ c. omega arith)
     loop-again
     returns-3)

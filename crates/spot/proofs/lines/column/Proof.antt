@@ -8,17 +8,11 @@ use Rattle.spot.proofs.lines.column.Tie as tie
 returns : tie.Need-returns
 returns c = λ h. absurd (omega arith)
 
-begin-requires : tie.Need-begin-requires
-begin-requires c κs = search needs
-
 returns-2 : tie.Need-returns-2
 returns-2 c = λ h. let z = c .before .begin .ensures h .before in absurd (omega arith)
-
-add-result : tie.Need-add-result
-add-result c = search needs
 
 returns-3 : tie.Need-returns-3
 returns-3 c = λ h. record { begin = c .before .begin .result; begins = c .before .begin .ensures h; is = refl }
 
 pub column-spec : {M : Type 1} → statement M
-column-spec = tie.close (tie.spec returns begin-requires returns-2 add-result returns-3)
+column-spec = tie.close (tie.spec returns (λ c κs. search needs) returns-2 (λ c. search needs) returns-3)

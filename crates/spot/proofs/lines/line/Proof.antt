@@ -24,21 +24,6 @@ loop-holds c = (omega arith, omega arith, λ _. omega arith)
 returns : tie.Need-returns Inv-loop μ-loop
 returns c = λ h. absurd (omega arith)
 
-shared-slice-read-one : tie.Need-shared-slice-read-one Inv-loop μ-loop
-shared-slice-read-one c = omega arith
-
-one-requires : tie.Need-one-requires Inv-loop μ-loop
-one-requires c κs = search needs
-
-add-n : tie.Need-add-n Inv-loop μ-loop
-add-n c = omega arith
-
-add-i : tie.Need-add-i Inv-loop μ-loop
-add-i c = omega arith
-
-loop-less : tie.Need-loop-less Inv-loop μ-loop
-loop-less c = omega arith
-
 loop-again : tie.Need-loop-again Inv-loop μ-loop
 loop-again c = let l = c .before .before .before .before .loop in (omega arith, omega arith, λ h. let m = one-more (c .before .before .before .before .before .before .args .text .now) (l .i) in let k = l .inv .2 (omega arith) in let o = c .one .ensures .0 in omega arith)
 
@@ -53,10 +38,6 @@ line-spec =
     μ-loop
     loop-holds
     returns
-    shared-slice-read-one
-    one-requires
-    add-n
-    add-i
-    loop-less
+    (λ c. omega arith) (λ c κs. search needs) (λ c. omega arith) (λ c. omega arith) (λ c. omega arith)
     loop-again
     returns-2)

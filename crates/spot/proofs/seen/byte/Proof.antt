@@ -8,12 +8,6 @@ use borrow.Author.Needs.{needs}
 use Rattle.spot.proofs.seen.byte.Statement.{statement}
 use Rattle.spot.proofs.seen.byte.Tie as tie
 
-up-requires : tie.Need-up-requires
-up-requires c κs = search needs
-
-marked-requires : tie.Need-marked-requires
-marked-requires c κs = search needs
-
 returns : tie.Need-returns
 returns c = λ t h d.
     let s = c .before .before .before .args in
@@ -21,21 +15,12 @@ returns c = λ t h d.
     subst (Describes (t ++ (s .b ∷ []))) (sym (c .marked .ensures))
     (after-high d (s .b) (c .before .before .up .result) (c .before .before .up .ensures (omega arith)) (c .before .if1 .taken))
 
-marked-requires-2 : tie.Need-marked-requires-2
-marked-requires-2 c κs = search needs
-
 returns-2 : tie.Need-returns-2
 returns-2 c = λ t h d.
     let s = c .before .before .before .before .args in
     let e = d .total in
     subst (Describes (t ++ (s .b ∷ []))) (sym (c .marked2 .ensures))
     (first-high d (s .b) (c .before .before .before .up .result) (c .before .before .before .up .ensures (omega arith)) (c .before .before .if1 .left) (c .before .if2 .taken))
-
-up-requires-2 : tie.Need-up-requires-2
-up-requires-2 c κs = search needs
-
-up-requires-3 : tie.Need-up-requires-3
-up-requires-3 c κs = search needs
 
 returns-3 : tie.Need-returns-3
 returns-3 c = λ t h d.
@@ -59,4 +44,4 @@ returns-4 c = λ t h d.
 pub byte-spec : {M : Type 1} → statement M
 byte-spec =
     tie.close
-    (tie.spec up-requires marked-requires returns marked-requires-2 returns-2 up-requires-2 up-requires-3 returns-3 returns-4)
+    (tie.spec (λ c κs. search needs) (λ c κs. search needs) returns (λ c κs. search needs) returns-2 (λ c κs. search needs) (λ c κs. search needs) returns-3 returns-4)

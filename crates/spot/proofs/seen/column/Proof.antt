@@ -7,9 +7,6 @@ use Rattle.spot.proofs.seen.column.Tie as tie
 returns : tie.Need-returns
 returns c = λ t h d. let z = d .begins .before in absurd (omega arith)
 
-up-requires : tie.Need-up-requires
-up-requires c κs = search needs
-
 returns-2 : tie.Need-returns-2
 returns-2 c = λ t h d.
     let s = c .before .before .before .before .args .s in
@@ -17,4 +14,4 @@ returns-2 c = λ t h d.
     record { begin = s .begin; begins = d .begins; is = c .up .ensures (omega arith) }
 
 pub column-spec : {M : Type 1} → statement M
-column-spec = tie.close (tie.spec returns up-requires returns-2)
+column-spec = tie.close (tie.spec returns (λ c κs. search needs) returns-2)

@@ -6,23 +6,8 @@ use Rattle.stages.proofs.limiting.earlier.Tie as tie
 use Rattle.stages.proofs.limiting.earlier.Reads as reads
 use Rattle.stages.proofs.limiting.earlier.Lts as lts
 
-enum-told : tie.Need-enum-told
-enum-told c = search needs
-
-enum-known-a : tie.Need-enum-known-a
-enum-known-a c = search needs
-
-enum-told-2 : tie.Need-enum-told-2
-enum-told-2 c = search needs
-
-enum-known-b : tie.Need-enum-known-b
-enum-known-b c = search needs
-
 returns : tie.Need-returns
 returns c = both-up (c .before .before .before .before .before .before .before .args .a) (c .before .before .before .before .before .before .before .args .b) (c .before .before .before .before .before .a .given .0 .0) (c .before .before .b .given .0 .0) (c .before .before .before .before .before .a .given .1) (c .before .before .b .given .1) (c .if1 .taken)
-
-returns-2 : tie.Need-returns-2
-returns-2 c = search needs
 
 returns-3 : tie.Need-returns-3
 returns-3 c = first-alone (c .before .before .before .before .before .args .a) (c .before .before .before .before .before .args .b) (c .before .before .before .a .given .0 .0) (c .before .before .before .a .given .1) (c .enum-told2 .given .1)
@@ -34,11 +19,8 @@ pub earlier-spec : {M : Type 1} → statement M
 earlier-spec =
     tie.close
     (tie.spec
-    enum-told
-    enum-known-a
-    enum-told-2
-    enum-known-b
+    (λ c. search needs) (λ c. search needs) (λ c. search needs) (λ c. search needs)
     returns
-    returns-2
+    (λ c. search needs)
     returns-3
     returns-4)

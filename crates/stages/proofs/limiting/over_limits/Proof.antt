@@ -10,21 +10,6 @@ use Rattle.stages.proofs.limiting.large.Reads as large-reads
 use Rattle.stages.proofs.limiting.whole.Reads as whole-reads
 use Rattle.token_tests.proofs.past_limit.Reads as past-limit-reads
 
-past-limit-requires : tie.Need-past-limit-requires
-past-limit-requires c κs = search needs
-
-large-requires : tie.Need-large-requires
-large-requires c κs = search needs
-
-whole-requires : tie.Need-whole-requires
-whole-requires c κs = search needs
-
-earlier-requires : tie.Need-earlier-requires
-earlier-requires c κs = search needs
-
-earlier-requires-2 : tie.Need-earlier-requires-2
-earlier-requires-2 c κs = search needs
-
 returns : tie.Need-returns
 returns c =
     let s = c .before .before .before .before .before .before .before .before .before .args in
@@ -35,9 +20,5 @@ pub over-limits-spec : {M : Type 1} → statement M
 over-limits-spec =
     tie.close
     (tie.spec
-    past-limit-requires
-    large-requires
-    whole-requires
-    earlier-requires
-    earlier-requires-2
+    (λ c κs. search needs) (λ c κs. search needs) (λ c κs. search needs) (λ c κs. search needs) (λ c κs. search needs)
     returns)

@@ -5,9 +5,6 @@ use borrow.Author.Needs.{needs}
 use Rattle.steps.proofs.operators.level.Statement.{statement}
 use Rattle.steps.proofs.operators.level.Tie as tie
 
-array-read-result : tie.Need-array-read-result
-array-read-result c = search needs
-
 returns : tie.Need-returns
 unfolding level-table
 returns c =
@@ -17,4 +14,4 @@ returns-2 : tie.Need-returns-2
 returns-2 c = sym (out-level ((c .before) .args .k) ((c .if1) .left))
 
 pub level-spec : {M : Type 1} → statement M
-level-spec = tie.close (tie.spec array-read-result returns returns-2)
+level-spec = tie.close (tie.spec (λ c. search needs) returns returns-2)

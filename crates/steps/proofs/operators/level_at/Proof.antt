@@ -6,12 +6,6 @@ use borrow.Author.Needs.{needs}
 use Rattle.steps.proofs.operators.level_at.Statement.{statement}
 use Rattle.steps.proofs.operators.level_at.Tie as tie
 
-kind-at-requires : tie.Need-kind-at-requires
-kind-at-requires c κs = search needs
-
-level-requires : tie.Need-level-requires
-level-requires c κs = search needs
-
 returns : tie.Need-returns
 returns c =
     let k = (c .before .before .kind-at) .ensures in
@@ -22,9 +16,6 @@ returns-2 c =
     let k = (c .before .before .kind-at) .ensures in
     sym (level-and ((c .before .before .before .before) .args .assigned) _ (sym k ∙ (c .if2) .taken) (not-false _ ((c .before .if1) .left)))
 
-level-requires-2 : tie.Need-level-requires-2
-level-requires-2 c κs = search needs
-
 returns-3 : tie.Need-returns-3
 returns-3 c =
     let k = (c .before .before .before .kind-at) .ensures in
@@ -33,4 +24,4 @@ returns-3 c =
 pub level-at-spec : {M : Type 1} → statement M
 level-at-spec =
     tie.close
-    (tie.spec kind-at-requires level-requires returns returns-2 level-requires-2 returns-3)
+    (tie.spec (λ c κs. search needs) (λ c κs. search needs) returns returns-2 (λ c κs. search needs) returns-3)

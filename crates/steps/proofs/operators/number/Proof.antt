@@ -5,9 +5,6 @@ use borrow.Author.Needs.{needs}
 use Rattle.steps.proofs.operators.number.Statement.{statement}
 use Rattle.steps.proofs.operators.number.Tie as tie
 
-array-read-result : tie.Need-array-read-result
-array-read-result c = search needs
-
 returns : tie.Need-returns
 unfolding number-table
 returns c =
@@ -17,4 +14,4 @@ returns-2 : tie.Need-returns-2
 returns-2 c = λ h. let z = out-level ((c .before) .args .k) ((c .if1) .left) in absurd (omega arith)
 
 pub number-spec : {M : Type 1} → statement M
-number-spec = tie.close (tie.spec array-read-result returns returns-2)
+number-spec = tie.close (tie.spec (λ c. search needs) returns returns-2)

@@ -22,20 +22,8 @@ abbrev μ-loop : tie.MeasureT-loop
 loop-holds : tie.Need-loop-holds Inv-loop μ-loop
 loop-holds c = (omega arith, λ text places lengths. settled-first)
 
-sub-byte : tie.Need-sub-byte Inv-loop μ-loop
-sub-byte c = search needs
-
-mul-byte : tie.Need-mul-byte Inv-loop μ-loop
-mul-byte c = search needs
-
 array-read-byte : tie.Need-array-read-byte Inv-loop μ-loop
 array-read-byte c = let g = (c .before .loop) .inv .0 in search needs
-
-byte-requires : tie.Need-byte-requires Inv-loop μ-loop
-byte-requires c κs = search needs
-
-level-requires : tie.Need-level-requires Inv-loop μ-loop
-level-requires c κs = search needs
 
 returns : tie.Need-returns Inv-loop μ-loop
 returns c =
@@ -48,20 +36,8 @@ returns c =
       done = λ text places lengths a t e u i m f end lv s d h r lg. (refl, l .inv .1 text places lengths a t e u i m f end lv s d h r lg);
     }
 
-sub-f : tie.Need-sub-f Inv-loop μ-loop
-sub-f c = search needs
-
-mul-f : tie.Need-mul-f Inv-loop μ-loop
-mul-f c = search needs
-
 array-read-f : tie.Need-array-read-f Inv-loop μ-loop
 array-read-f c = let g = (c .before .before .before .before .loop) .inv .0 in search needs
-
-number-requires : tie.Need-number-requires Inv-loop μ-loop
-number-requires c κs = search needs
-
-put-requires : tie.Need-put-requires Inv-loop μ-loop
-put-requires c κs = search needs
 
 returns-2 : tie.Need-returns-2 Inv-loop μ-loop
 returns-2 c =
@@ -81,12 +57,6 @@ returns-2 c =
 add-used : tie.Need-add-used Inv-loop μ-loop
 add-used c =
     let o = (c .before .put) .ensures .room (not-false _ ((c .if2) .left)) in omega arith
-
-sub-m : tie.Need-sub-m Inv-loop μ-loop
-sub-m c = search needs
-
-loop-less : tie.Need-loop-less Inv-loop μ-loop
-loop-less c = search needs
 
 loop-again : tie.Need-loop-again Inv-loop μ-loop
 loop-again c =
@@ -115,20 +85,15 @@ reduce-spec =
     Inv-loop
     μ-loop
     loop-holds
-    sub-byte
-    mul-byte
+    (λ c. search needs) (λ c. search needs)
     array-read-byte
-    byte-requires
-    level-requires
+    (λ c κs. search needs) (λ c κs. search needs)
     returns
-    sub-f
-    mul-f
+    (λ c. search needs) (λ c. search needs)
     array-read-f
-    number-requires
-    put-requires
+    (λ c κs. search needs) (λ c κs. search needs)
     returns-2
     add-used
-    sub-m
-    loop-less
+    (λ c. search needs) (λ c. search needs)
     loop-again
     returns-3)

@@ -6,12 +6,6 @@ use borrow.Author.Needs.{needs}
 use Rattle.survey.proofs.kinds.one.Statement.{statement}
 use Rattle.survey.proofs.kinds.one.Tie as tie
 
-mul-number : tie.Need-mul-number
-mul-number c = search needs
-
-number-requires : tie.Need-number-requires
-number-requires c κs = search needs
-
 returns : tie.Need-returns
 returns c = (rw (eq-eqb _ _ (sym ((c .before .number) .ensures) ∙ (c .if1) .taken)), omega arith)
 
@@ -19,4 +13,4 @@ returns-2 : tie.Need-returns-2
 returns-2 c = (rw (ne-eqb _ _ (λ z. (c .if1) .left ((c .before .number) .ensures ∙ z))), omega arith)
 
 pub one-spec : {M : Type 1} → statement M
-one-spec = tie.close (tie.spec mul-number number-requires returns returns-2)
+one-spec = tie.close (tie.spec (λ c. search needs) (λ c κs. search needs) returns returns-2)

@@ -22,9 +22,6 @@ Inv-loop kinds rows n s₀ i₀ s i =
 abbrev μ-loop : tie.MeasureT-loop
 μ-loop kinds rows n s₀ i₀ s i = n - i
 
-refused-requires : tie.Need-refused-requires Inv-loop μ-loop
-refused-requires c κs = search needs
-
 returns : tie.Need-returns Inv-loop μ-loop
 returns c = λ v e l all o h. absurd (let t = (c .before .if1) .taken in omega arith)
 
@@ -59,7 +56,7 @@ weigh-spec =
     (tie.spec
     Inv-loop
     μ-loop
-    refused-requires
+    (λ c κs. search needs)
     returns
     loop-holds
     besides-requires

@@ -20,12 +20,6 @@ abbrev μ-loop : tie.MeasureT-loop
 loop-holds : tie.Need-loop-holds Inv-loop μ-loop
 loop-holds c = (refl, refl)
 
-byte-requires : tie.Need-byte-requires Inv-loop μ-loop
-byte-requires c κs = search needs
-
-power-requires : tie.Need-power-requires Inv-loop μ-loop
-power-requires c κs = search needs
-
 returns : tie.Need-returns Inv-loop μ-loop
 returns c =
     let l = c .before .before .before .before .loop in
@@ -33,15 +27,6 @@ returns c =
     let p : begins-exponent (getD t (l .i) 0) ≡ true = ap begins-exponent (sym (c .before .before .byte .ensures)) ∙ sym (c .before .power .ensures) ∙ c .if1 .taken in
     let k = l .inv .1 in
     rw (cells-more t (l .i) (l .m) (c .before .before .before .loop-test .taken), p) at k
-
-add-i : tie.Need-add-i Inv-loop μ-loop
-add-i c = search needs
-
-sub-m : tie.Need-sub-m Inv-loop μ-loop
-sub-m c = search needs
-
-loop-less : tie.Need-loop-less Inv-loop μ-loop
-loop-less c = search needs
 
 loop-again : tie.Need-loop-again Inv-loop μ-loop
 loop-again c =
@@ -64,11 +49,8 @@ exponent-spec =
     Inv-loop
     μ-loop
     loop-holds
-    byte-requires
-    power-requires
+    (λ c κs. search needs) (λ c κs. search needs)
     returns
-    add-i
-    sub-m
-    loop-less
+    (λ c. search needs) (λ c. search needs) (λ c. search needs)
     loop-again
     returns-2)

@@ -8,14 +8,8 @@ use borrow.Author.Needs.{needs}
 use Rattle.token_tests.proofs.edition.is_left_out.Statement.{statement}
 use Rattle.token_tests.proofs.edition.is_left_out.Tie as tie
 
-exponent-requires : tie.Need-exponent-requires
-exponent-requires c κs = search needs
-
 returns : tie.Need-returns
 returns c = rw (eq-eqb (c .before .before .before .args .k) 99 (c .before .if1 .taken)) (c .exponent .ensures)
-
-word-requires : tie.Need-word-requires
-word-requires c κs = search needs
 
 returns-2 : tie.Need-returns-2
 returns-2 c = rw (ne-eqb (c .before .before .before .before .args .k) 99 (c .before .before .if1 .left), lt-ltb (c .before .before .before .before .args .k) 95 (c .before .if2 .taken)) (c .word .ensures)
@@ -28,12 +22,6 @@ returns-4 c =
     let a = c .before .before .before .before .before .args in
     rw (ne-eqb (a .k) 99 (c .before .before .before .if1 .left), le-ltb (a .k) 95 (c .before .before .if2 .left), le-leb (a .k) 97 (c .before .if3 .left), ne-eqb (a .next) 76 (c .if4 .taken))
 
-inside-requires : tie.Need-inside-requires
-inside-requires c κs = search needs
-
-functor-requires : tie.Need-functor-requires
-functor-requires c κs = search needs
-
 returns-5 : tie.Need-returns-5
 returns-5 c =
     let a = c .before .before .before .before .before .before .before .args in
@@ -44,12 +32,11 @@ pub is-left-out-spec : {M : Type 1} → statement M
 is-left-out-spec =
     tie.close
     (tie.spec
-    exponent-requires
+    (λ c κs. search needs)
     returns
-    word-requires
+    (λ c κs. search needs)
     returns-2
     returns-3
     returns-4
-    inside-requires
-    functor-requires
+    (λ c κs. search needs) (λ c κs. search needs)
     returns-5)

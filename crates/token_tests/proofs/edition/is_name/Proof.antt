@@ -17,32 +17,17 @@ Inv-loop text at n i x₀ y₀ m₀ x y m = (x + m ≡ at + n) × (y ≤ i * 16 
 abbrev μ-loop : tie.MeasureT-loop
 μ-loop text at n i x₀ y₀ m₀ x y m = m
 
-mul-if1 : tie.Need-mul-if1 Inv-loop μ-loop
-mul-if1 c = search needs
-
-array-read-if1 : tie.Need-array-read-if1 Inv-loop μ-loop
-array-read-if1 c = search needs
-
 returns : tie.Need-returns Inv-loop μ-loop
 unfolding name-lengths
 returns c =
     let a = (c .before .before) .args in
     sym (same-long name-bytes (a .text .now) (a .n) (getD name-lengths (a .i) 0) (a .i * 16) (a .at) ((c .if1) .taken))
 
-mul-y : tie.Need-mul-y Inv-loop μ-loop
-mul-y c = search needs
-
 loop-holds : tie.Need-loop-holds Inv-loop μ-loop
 unfolding name-lengths
 loop-holds c =
     let a = (c .before .before) .args in
     (refl, omega arith, ap (λ k. sameb (cells name-bytes (a .i * 16) k) (cells (a .text .now) (a .at) (a .n))) ((c .if1) .left))
-
-name-byte-requires : tie.Need-name-byte-requires Inv-loop μ-loop
-name-byte-requires c κs = search needs
-
-byte-requires : tie.Need-byte-requires Inv-loop μ-loop
-byte-requires c κs = search needs
 
 returns-2 : tie.Need-returns-2 Inv-loop μ-loop
 returns-2 c =
@@ -52,18 +37,6 @@ returns-2 c =
     let e = (c .before .before .name-byte) .ensures in
     let f = (c .before .byte) .ensures in
     sym (same-stop name-bytes (a .text .now) (l .y) (l .x) (l .m) ((c .before .before .before .loop-test) .taken) (λ q. (c .if2) .taken (e ∙ q ∙ sym f))) ∙ k
-
-add-x : tie.Need-add-x Inv-loop μ-loop
-add-x c = search needs
-
-add-y : tie.Need-add-y Inv-loop μ-loop
-add-y c = search needs
-
-sub-m : tie.Need-sub-m Inv-loop μ-loop
-sub-m c = search needs
-
-loop-less : tie.Need-loop-less Inv-loop μ-loop
-loop-less c = search needs
 
 loop-again : tie.Need-loop-again Inv-loop μ-loop
 loop-again c =
@@ -87,17 +60,12 @@ is-name-spec =
     (tie.spec
     Inv-loop
     μ-loop
-    mul-if1
-    array-read-if1
+    (λ c. search needs) (λ c. search needs)
     returns
-    mul-y
+    (λ c. search needs)
     loop-holds
-    name-byte-requires
-    byte-requires
+    (λ c κs. search needs) (λ c κs. search needs)
     returns-2
-    add-x
-    add-y
-    sub-m
-    loop-less
+    (λ c. search needs) (λ c. search needs) (λ c. search needs) (λ c. search needs)
     loop-again
     returns-3)

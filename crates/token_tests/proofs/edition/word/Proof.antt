@@ -6,9 +6,6 @@ use borrow.Author.Needs.{needs}
 use Rattle.token_tests.proofs.edition.word.Statement.{statement}
 use Rattle.token_tests.proofs.edition.word.Tie as tie
 
-array-read-result : tie.Need-array-read-result
-array-read-result c = search needs
-
 returns : tie.Need-returns
 unfolding word-table
 returns c = refl
@@ -18,4 +15,4 @@ unfolding word-table
 returns-2 c = rw (List·getD-eq-default word-table 0 (c .if1 .left))
 
 pub word-spec : {M : Type 1} → statement M
-word-spec = tie.close (tie.spec array-read-result returns returns-2)
+word-spec = tie.close (tie.spec (λ c. search needs) returns returns-2)

@@ -9,23 +9,14 @@ use borrow.Author.Needs.{needs}
 use Rattle.token_tests.proofs.sizes.is_past_limit.Statement.{statement}
 use Rattle.token_tests.proofs.sizes.is_past_limit.Tie as tie
 
-large-integer-requires : tie.Need-large-integer-requires
-large-integer-requires c κs = search needs
-
 returns : tie.Need-returns
 returns c = rw (eq-eqb (c .before .before .before .args .k) 98 (c .before .if1 .taken)) (c .large-integer .ensures)
-
-large-float-requires : tie.Need-large-float-requires
-large-float-requires c κs = search needs
 
 returns-2 : tie.Need-returns-2
 returns-2 c = rw (ne-eqb (c .before .before .before .before .args .k) 98 (c .before .before .if1 .left), eq-eqb (c .before .before .before .before .args .k) 99 (c .before .if2 .taken)) (c .large-float .ensures)
 
 returns-3 : tie.Need-returns-3
 returns-3 c = rw (ne-eqb (c .before .before .before .before .args .k) 98 (c .before .before .if1 .left), ne-eqb (c .before .before .before .before .args .k) 99 (c .before .if2 .left), lt-ltb (c .before .before .before .before .args .k) 95 (c .if3 .taken))
-
-inside-requires : tie.Need-inside-requires
-inside-requires c κs = search needs
 
 returns-4 : tie.Need-returns-4
 returns-4 c =
@@ -38,10 +29,10 @@ pub is-past-limit-spec : {M : Type 1} → statement M
 is-past-limit-spec =
     tie.close
     (tie.spec
-    large-integer-requires
+    (λ c κs. search needs)
     returns
-    large-float-requires
+    (λ c κs. search needs)
     returns-2
     returns-3
-    inside-requires
+    (λ c κs. search needs)
     returns-4)

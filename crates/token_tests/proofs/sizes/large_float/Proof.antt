@@ -12,12 +12,6 @@ use borrow.Author.Needs.{needs}
 use Rattle.token_tests.proofs.sizes.large_float.Statement.{statement}
 use Rattle.token_tests.proofs.sizes.large_float.Tie as tie
 
-unsigned-requires : tie.Need-unsigned-requires
-unsigned-requires c κs = search needs
-
-fixed-requires : tie.Need-fixed-requires
-fixed-requires c κs = search needs
-
 returns : tie.Need-returns
 returns c =
     let a = c .before .before .before .before .args in
@@ -25,9 +19,6 @@ returns c =
     let e : c .before .fixed .result ≡ v = c .before .fixed .ensures .0 ∙ ap (N.fixed 0) (c .before .before .unsigned .ensures .0) in
     let h = c .if1 .taken in
     rw (lt-ltb real-limit v (omega arith))
-
-behind-requires : tie.Need-behind-requires
-behind-requires c κs = search needs
 
 returns-2 : tie.Need-returns-2
 returns-2 c =
@@ -39,4 +30,4 @@ returns-2 c =
 
 pub large-float-spec : {M : Type 1} → statement M
 large-float-spec =
-    tie.close (tie.spec unsigned-requires fixed-requires returns behind-requires returns-2)
+    tie.close (tie.spec (λ c κs. search needs) (λ c κs. search needs) returns (λ c κs. search needs) returns-2)

@@ -7,14 +7,8 @@ use borrow.Author.Needs.{needs}
 use Rattle.token_tests.proofs.sizes.large_integer.Statement.{statement}
 use Rattle.token_tests.proofs.sizes.large_integer.Tie as tie
 
-unsigned-requires : tie.Need-unsigned-requires
-unsigned-requires c κs = search needs
-
-digits-requires : tie.Need-digits-requires
-digits-requires c κs = search needs
-
 returns : tie.Need-returns
 returns c = ap (ltb integer-limit) (c .digits .ensures .0 ∙ ap (N.digits 0) (c .before .unsigned .ensures .0))
 
 pub large-integer-spec : {M : Type 1} → statement M
-large-integer-spec = tie.close (tie.spec unsigned-requires digits-requires returns)
+large-integer-spec = tie.close (tie.spec (λ c κs. search needs) (λ c κs. search needs) returns)

@@ -6,18 +6,6 @@ use borrow.Author.Needs.{needs}
 use Rattle.token_tests.proofs.sizes.unsigned.Statement.{statement}
 use Rattle.token_tests.proofs.sizes.unsigned.Tie as tie
 
-returns : tie.Need-returns
-returns c = search needs
-
-byte-requires : tie.Need-byte-requires
-byte-requires c κs = search needs
-
-add-t6 : tie.Need-add-t6
-add-t6 c = search needs
-
-sub-t7 : tie.Need-sub-t7
-sub-t7 c = search needs
-
 returns-2 : tie.Need-returns-2
 returns-2 c =
     let a = c .before .before .before .before .args in
@@ -31,4 +19,4 @@ returns-3 c =
     (sym (unsigned-plain (a .text .now) (a .at) (a .n) (omega arith) (λ q. c .if2 .left (c .before .byte .ensures ∙ q))), omega arith)
 
 pub unsigned-spec : {M : Type 1} → statement M
-unsigned-spec = tie.close (tie.spec returns byte-requires add-t6 sub-t7 returns-2 returns-3)
+unsigned-spec = tie.close (tie.spec (λ c. search needs) (λ c κs. search needs) (λ c. search needs) (λ c. search needs) returns-2 returns-3)

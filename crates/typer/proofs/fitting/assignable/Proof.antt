@@ -6,15 +6,6 @@ use Rattle.typer.specs.Fitting.{Assignable, assigned-suits, assigned-non
 use Rattle.typer.proofs.fitting.assignable.Statement.{statement}
 use Rattle.typer.proofs.fitting.assignable.Tie as tie
 
-byte-requires : tie.Need-byte-requires
-byte-requires c κs = search needs
-
-inferred-requires : tie.Need-inferred-requires
-inferred-requires c κs = search needs
-
-meets-requires : tie.Need-meets-requires
-meets-requires c κs = search needs
-
 returns : tie.Need-returns
 returns c =
     let a = c .before .before .before .before .before .before .args in
@@ -25,4 +16,4 @@ returns-2 : tie.Need-returns-2
 returns-2 c = let a = c .before .before .before .args in assigned-none (a .names .now) (a .types .now) (a .i) (a .found) (c .if1 .left)
 
 pub assignable-spec : {M : Type 1} → statement M
-assignable-spec = tie.close (tie.spec byte-requires inferred-requires meets-requires returns returns-2)
+assignable-spec = tie.close (tie.spec (λ c κs. search needs) (λ c κs. search needs) (λ c κs. search needs) returns returns-2)

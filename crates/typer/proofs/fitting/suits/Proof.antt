@@ -7,18 +7,6 @@ use Rattle.typer.specs.Fitting.{Suits, condition-suits, wording-suits}
 use Rattle.typer.proofs.fitting.suits.Statement.{statement}
 use Rattle.typer.proofs.fitting.suits.Tie as tie
 
-enum-told : tie.Need-enum-told
-enum-told c = search needs
-
-enum-told-2 : tie.Need-enum-told-2
-enum-told-2 c = search needs
-
-enum-known-role : tie.Need-enum-known-role
-enum-known-role c = search needs
-
-assignable-requires : tie.Need-assignable-requires
-assignable-requires c κs = search needs
-
 returns : tie.Need-returns
 returns c =
     let a = c .before .before .before .before .args in
@@ -35,4 +23,4 @@ returns-3 c =
     subst (λ (x : Role). Suits (a .names .now) (a .types .now) x (a .found) (c .assignable .result)) (sym (c .before .before .role .given .1)) (c .assignable .ensures)
 
 pub suits-spec : {M : Type 1} → statement M
-suits-spec = tie.close (tie.spec enum-told enum-told-2 enum-known-role assignable-requires returns returns-2 returns-3)
+suits-spec = tie.close (tie.spec (λ c. search needs) (λ c. search needs) (λ c. search needs) (λ c κs. search needs) returns returns-2 returns-3)

@@ -5,15 +5,6 @@ use Rattle.typer.specs.Leaves.{inferredOf, atom-item, atom-text}
 use Rattle.typer.proofs.leaves.atom.Statement.{statement}
 use Rattle.typer.proofs.leaves.atom.Tie as tie
 
-find-requires : tie.Need-find-requires
-find-requires c κs = search needs
-
-byte-requires : tie.Need-byte-requires
-byte-requires c κs = search needs
-
-inferred-requires : tie.Need-inferred-requires
-inferred-requires c κs = search needs
-
 returns : tie.Need-returns
 returns c =
     let a = c .before .before .before .before .before .before .before .args in
@@ -25,4 +16,4 @@ returns-2 c =
     atom-text (a .bytes .now) (a .names .now) (a .types .now) (a .task) (a .h) (c .before .find .result) (c .before .find .ensures) (c .if1 .left)
 
 pub atom-spec : {M : Type 1} → statement M
-atom-spec = tie.close (tie.spec find-requires byte-requires inferred-requires returns returns-2)
+atom-spec = tie.close (tie.spec (λ c κs. search needs) (λ c κs. search needs) (λ c κs. search needs) returns returns-2)

@@ -8,9 +8,6 @@ use Rattle.typer.specs.Leaves.{leafOf, leaf-typed}
 use Rattle.typer.proofs.leaves.leaf.Statement.{statement}
 use Rattle.typer.proofs.leaves.leaf.Tie as tie
 
-atom-requires : tie.Need-atom-requires
-atom-requires c κs = search needs
-
 returns : tie.Need-returns
 returns c =
     let a = c .before .before .before .before .before .args in
@@ -37,4 +34,4 @@ returns-5 c =
     leaf-typed (a .bytes .now) (a .names .now) (a .types .now) (a .task) (a .kind) (a .load) 0 0 (λ e. absurd (c .match .rest .0 .0 .0 .1 e)) (simp (ne-eqb _ 1 (c .match .rest .0 .0 .0 .1), ne-eqb _ 2 (c .match .rest .0 .0 .1), ne-eqb _ 3 (c .match .rest .0 .1), ne-eqb _ 4 (c .match .rest .1)))
 
 pub leaf-spec : {M : Type 1} → statement M
-leaf-spec = tie.close (tie.spec atom-requires returns returns-2 returns-3 returns-4 returns-5)
+leaf-spec = tie.close (tie.spec (λ c κs. search needs) returns returns-2 returns-3 returns-4 returns-5)

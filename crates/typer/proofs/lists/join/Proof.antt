@@ -7,15 +7,6 @@ use Rattle.typer.specs.Lists.{joinOf}
 use Rattle.typer.proofs.lists.join.Statement.{statement}
 use Rattle.typer.proofs.lists.join.Tie as tie
 
-texts-requires : tie.Need-texts-requires
-texts-requires c κs = search needs
-
-integers-requires : tie.Need-integers-requires
-integers-requires c κs = search needs
-
-reals-requires : tie.Need-reals-requires
-reals-requires c κs = search needs
-
 returns : tie.Need-returns
 returns c = c .texts .ensures ∙ ap (λ (x : ℕ). joinOf x (c .before .before .args .l)) (sym (c .before .match .keys1))
 
@@ -29,4 +20,4 @@ returns-4 : tie.Need-returns-4
 returns-4 c = simp (ne-eqb _ 84 (c .match .rest .0 .0 .1), ne-eqb _ 73 (c .match .rest .0 .1), ne-eqb _ 82 (c .match .rest .1))
 
 pub join-spec : {M : Type 1} → statement M
-join-spec = tie.close (tie.spec texts-requires integers-requires reals-requires returns returns-2 returns-3 returns-4)
+join-spec = tie.close (tie.spec (λ c κs. search needs) (λ c κs. search needs) (λ c κs. search needs) returns returns-2 returns-3 returns-4)

@@ -11,19 +11,10 @@ use Rattle.values.proofs.list.push.Tie as tie
 long : (c : tie.After-items) → length (c .before .args .l .items) ≡ 16
 long c = search (needs, unmap)
 
-mul-items : tie.Need-mul-items
-mul-items c = search needs
-
-array-set-from-items : tie.Need-array-set-from-items
-array-set-from-items c = search needs
-
-add-t6 : tie.Need-add-t6
-add-t6 c = search needs
-
 returns : tie.Need-returns
 returns c = let a = c .before .args in
     let e = long c in
     record { size = refl; means = λ bs. pushed bs (a .l .n) (a .l .items) (a .s) (omega arith) }
 
 pub push-spec : {M : Type 1} → statement M
-push-spec = tie.close (tie.spec mul-items array-set-from-items add-t6 returns)
+push-spec = tie.close (tie.spec (λ c. search needs) (λ c. search needs) (λ c. search needs) returns)

@@ -5,14 +5,8 @@ use borrow.Author.Needs.{needs}
 use Rattle.values.proofs.list.put.Statement.{statement}
 use Rattle.values.proofs.list.put.Tie as tie
 
-mul-items : tie.Need-mul-items
-mul-items c = search needs
-
-array-set-from-items : tie.Need-array-set-from-items
-array-set-from-items c = search needs
-
 returns : tie.Need-returns
 returns c = let a = c .before .args in record { size = refl; means = λ bs. stored bs (a .l .n) (a .l .items) (a .i) (a .s) }
 
 pub put-spec : {M : Type 1} → statement M
-put-spec = tie.close (tie.spec mul-items array-set-from-items returns)
+put-spec = tie.close (tie.spec (λ c. search needs) (λ c. search needs) returns)

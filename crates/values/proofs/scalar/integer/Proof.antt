@@ -10,9 +10,6 @@ use borrow.Author.Needs.{needs}
 use Rattle.values.proofs.scalar.integer.Statement.{statement}
 use Rattle.values.proofs.scalar.integer.Tie as tie
 
-integer-fits-requires : tie.Need-integer-fits-requires
-integer-fits-requires c κs = search needs
-
 narrow-requires : tie.Need-narrow-requires
 narrow-requires c κs =
     let e : leb (natAbs (c .before .before .args .w .z)) integer-limit ≡ true = sym (c .before .integer-fits .ensures) ∙ c .if1 .taken in
@@ -29,4 +26,4 @@ returns-2 c =
     rw e
 
 pub integer-spec : {M : Type 1} → statement M
-integer-spec = tie.close (tie.spec integer-fits-requires narrow-requires returns returns-2)
+integer-spec = tie.close (tie.spec (λ c κs. search needs) narrow-requires returns returns-2)

@@ -10,9 +10,6 @@ use borrow.Author.Needs.{needs}
 use Rattle.values.proofs.scalar.real.Statement.{statement}
 use Rattle.values.proofs.scalar.real.Tie as tie
 
-real-fits-requires : tie.Need-real-fits-requires
-real-fits-requires c κs = search needs
-
 narrow-requires : tie.Need-narrow-requires
 narrow-requires c κs =
     let e : leb (natAbs (c .before .before .args .w .z)) real-limit ≡ true = sym (c .before .real-fits .ensures) ∙ c .if1 .taken in
@@ -29,4 +26,4 @@ returns-2 c =
     rw e
 
 pub real-spec : {M : Type 1} → statement M
-real-spec = tie.close (tie.spec real-fits-requires narrow-requires returns returns-2)
+real-spec = tie.close (tie.spec (λ c κs. search needs) narrow-requires returns returns-2)

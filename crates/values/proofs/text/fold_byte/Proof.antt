@@ -11,11 +11,8 @@ returns c = simp (lt-leb 65 (c .before .args .a) (omega arith))
 returns-2 : tie.Need-returns-2
 returns-2 c = simp (le-leb 65 (c .before .before .args .a) (omega arith), lt-leb (c .before .before .args .a) 90 (omega arith))
 
-add-result : tie.Need-add-result
-add-result c = search needs
-
 returns-3 : tie.Need-returns-3
 returns-3 c = simp (le-leb 65 (c .before .before .args .a) (omega arith), le-leb (c .before .before .args .a) 90 (omega arith))
 
 pub fold-byte-spec : {M : Type 1} → statement M
-fold-byte-spec = tie.close (tie.spec returns returns-2 add-result returns-3)
+fold-byte-spec = tie.close (tie.spec returns returns-2 (λ c. search needs) returns-3)

@@ -20,29 +20,11 @@ loop-holds c = (omega arith, refl)
 returns : tie.Need-returns Inv-loop μ-loop
 returns c = longer (c .before .before .before .before .before .args .s .now) (c .before .before .before .before .before .args .t .now) (c .before .before .loop .i) (c .before .before .loop .inv .1) (omega arith) (omega arith)
 
-shared-slice-read-fold-byte : tie.Need-shared-slice-read-fold-byte Inv-loop μ-loop
-shared-slice-read-fold-byte c = search needs
-
-fold-byte-requires : tie.Need-fold-byte-requires Inv-loop μ-loop
-fold-byte-requires c κs = search needs
-
-shared-slice-read-fold-byte-2 : tie.Need-shared-slice-read-fold-byte-2 Inv-loop μ-loop
-shared-slice-read-fold-byte-2 c = search needs
-
-fold-byte-requires-2 : tie.Need-fold-byte-requires-2 Inv-loop μ-loop
-fold-byte-requires-2 c κs = search needs
-
 returns-2 : tie.Need-returns-2 Inv-loop μ-loop
 returns-2 c = greater (c .before .before .before .before .before .before .before .before .before .before .args .s .now) (c .before .before .before .before .before .before .before .before .before .before .args .t .now) (c .before .before .before .before .before .before .before .loop .i) (c .before .before .before .before .before .before .before .loop .inv .1) (omega arith) (omega arith) (omega (arith, c .before .before .before .fold-byte .ensures, c .before .fold-byte2 .ensures))
 
 returns-3 : tie.Need-returns-3 Inv-loop μ-loop
 returns-3 c = less (c .before .before .before .before .before .before .before .before .before .before .before .args .s .now) (c .before .before .before .before .before .before .before .before .before .before .before .args .t .now) (c .before .before .before .before .before .before .before .before .loop .i) (c .before .before .before .before .before .before .before .before .loop .inv .1) (omega arith) (omega arith) (omega (arith, c .before .before .before .before .fold-byte .ensures, c .before .before .fold-byte2 .ensures))
-
-add-i : tie.Need-add-i Inv-loop μ-loop
-add-i c = search needs
-
-loop-less : tie.Need-loop-less Inv-loop μ-loop
-loop-less c = search needs
 
 loop-again : tie.Need-loop-again Inv-loop μ-loop
 loop-again c = (
@@ -64,14 +46,10 @@ text-order-spec =
     μ-loop
     loop-holds
     returns
-    shared-slice-read-fold-byte
-    fold-byte-requires
-    shared-slice-read-fold-byte-2
-    fold-byte-requires-2
+    (λ c. search needs) (λ c κs. search needs) (λ c. search needs) (λ c κs. search needs)
     returns-2
     returns-3
-    add-i
-    loop-less
+    (λ c. search needs) (λ c. search needs)
     loop-again
     returns-4
     returns-5)

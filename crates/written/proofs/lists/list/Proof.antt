@@ -8,37 +8,10 @@ use borrow.Author.Needs.{needs}
 use Rattle.written.proofs.lists.list.Statement.{statement}
 use Rattle.written.proofs.lists.list.Tie as tie
 
-size-requires : tie.Need-size-requires
-size-requires c κs = search needs
-
-slice-aggregate-word : tie.Need-slice-aggregate-word
-slice-aggregate-word c = search needs
-
-word-requires : tie.Need-word-requires
-word-requires c κs = search needs
-
-same-length : tie.Need-same-length
-same-length c = search needs
-
 returns : tie.Need-returns
 returns c =
     let a = c .before .before .before .before .before .before .before .before .before .args in
     appends-as (list-none (a .bytes .now) (a .l) (omega arith)) (c .before .before .word .ensures)
-
-byte-requires : tie.Need-byte-requires
-byte-requires c κs = search needs
-
-get-requires : tie.Need-get-requires
-get-requires c κs = search needs
-
-scalar-requires : tie.Need-scalar-requires
-scalar-requires c κs = search needs
-
-more-requires : tie.Need-more-requires
-more-requires c κs = search needs
-
-same-length-2 : tie.Need-same-length-2
-same-length-2 c = search needs
 
 returns-2 : tie.Need-returns-2
 returns-2 c =
@@ -53,14 +26,7 @@ pub list-spec : {M : Type 1} → statement M
 list-spec =
     tie.close
     (tie.spec
-    size-requires
-    slice-aggregate-word
-    word-requires
-    same-length
+    (λ c κs. search needs) (λ c. search needs) (λ c κs. search needs) (λ c. search needs)
     returns
-    byte-requires
-    get-requires
-    scalar-requires
-    more-requires
-    same-length-2
+    (λ c κs. search needs) (λ c κs. search needs) (λ c κs. search needs) (λ c κs. search needs) (λ c. search needs)
     returns-2)

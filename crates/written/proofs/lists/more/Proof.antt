@@ -19,20 +19,8 @@ Inv-loop bytes l out₀ o n p₀ i₀ out p i =
 abbrev μ-loop : tie.MeasureT-loop
 μ-loop bytes l out₀ o n p₀ i₀ out p i = n - i
 
-size-requires : tie.Need-size-requires Inv-loop μ-loop
-size-requires c κs = search needs
-
 loop-holds : tie.Need-loop-holds Inv-loop μ-loop
 loop-holds c = (search needs, search needs, search needs, begun-none _ _ _)
-
-element-requires : tie.Need-element-requires Inv-loop μ-loop
-element-requires c κs = search needs
-
-add-i : tie.Need-add-i Inv-loop μ-loop
-add-i c = search needs
-
-loop-less : tie.Need-loop-less Inv-loop μ-loop
-loop-less c = search needs
 
 loop-again : tie.Need-loop-again Inv-loop μ-loop
 loop-again c =
@@ -41,12 +29,6 @@ loop-again c =
     let e = c .before .before .element .ensures in
     let more : l .i < sizeOf (a .l) = omega arith in
     (search needs, search needs, search needs, begun-more (rw (more-step (a .bytes .now) (a .l) (l .i) more) at (l .inv .3)) e)
-
-byte-requires : tie.Need-byte-requires Inv-loop μ-loop
-byte-requires c κs = search needs
-
-same-length : tie.Need-same-length Inv-loop μ-loop
-same-length c = search needs
 
 returns : tie.Need-returns Inv-loop μ-loop
 returns c =
@@ -61,12 +43,9 @@ more-spec =
     (tie.spec
     Inv-loop
     μ-loop
-    size-requires
+    (λ c κs. search needs)
     loop-holds
-    element-requires
-    add-i
-    loop-less
+    (λ c κs. search needs) (λ c. search needs) (λ c. search needs)
     loop-again
-    byte-requires
-    same-length
+    (λ c κs. search needs) (λ c. search needs)
     returns)

@@ -8,22 +8,10 @@ use borrow.Author.Needs.{needs}
 use Rattle.written.proofs.lists.value.Statement.{statement}
 use Rattle.written.proofs.lists.value.Tie as tie
 
-list-requires : tie.Need-list-requires
-list-requires c κs = search needs
-
-same-length : tie.Need-same-length
-same-length c = search needs
-
 returns : tie.Need-returns
 returns c =
     let a = c .before .before .before .before .before .before .before .before .args in
     appends-as (ap (λ (b : Bool). value-written (valued b (meaning (a .bytes .now) (a .v .one)) (meaningL (a .bytes .now) (a .v .list)))) (c .before .before .before .before .before .if1 .taken)) (c .before .before .list .ensures)
-
-scalar-requires : tie.Need-scalar-requires
-scalar-requires c κs = search needs
-
-same-length-2 : tie.Need-same-length-2
-same-length-2 c = search needs
 
 returns-2 : tie.Need-returns-2
 returns-2 c =
@@ -32,4 +20,4 @@ returns-2 c =
 
 pub value-spec : {M : Type 1} → statement M
 value-spec =
-    tie.close (tie.spec list-requires same-length returns scalar-requires same-length-2 returns-2)
+    tie.close (tie.spec (λ c κs. search needs) (λ c. search needs) returns (λ c κs. search needs) (λ c. search needs) returns-2)
