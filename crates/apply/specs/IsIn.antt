@@ -14,8 +14,8 @@ use Rattle.paper_expressions.specs.Values.{TaskState, dormant, in-progress, dis
 use Rattle.paper_expressions.specs.Clauses.{Clause}
 use Rattle.paper_expressions.specs.View.{View, Task, At, ResolveTask, Apart}
 use Rattle.paper_expressions.specs.Operators.{by-text, IsIn, is-in-1, is-in-2, is-in-3}
-use Rattle.paper_expressions.specs.Search.{no-clash, at-one}
-use Rattle.paper_expressions.specs.Resolve.{task-same}
+use Rattle.paper_expressions.specs.Laws.Search.{no-clash, at-one}
+use Rattle.paper_expressions.specs.Laws.Resolve.{task-same}
 use Rattle.values.specs.declared.text.Handle.{Handle}
 use Rattle.values.specs.declared.value.Value.{Value}
 use Rattle.values.specs.declared.scalar.Scalar.{Scalar}

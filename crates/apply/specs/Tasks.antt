@@ -12,7 +12,7 @@ use Rattle.paper_expressions.specs.Bytes.{folded, Alike}
 use Rattle.paper_expressions.specs.Values.{TaskState, dormant, in-progress, discarded, completed}
 use Rattle.paper_expressions.specs.Clauses.{§9·6-1, §9·6-3}
 use Rattle.paper_expressions.specs.View.{View, Task, At, Named, ResolveTask, resolve-task-1, resolve-task-3, Apart}
-use Rattle.paper_expressions.specs.Search.{no-clash, alikeb, alike-reflects, true-reflects, reflects-true}
+use Rattle.paper_expressions.specs.Laws.Search.{no-clash, alikeb, alike-reflects, true-reflects, reflects-true}
 use Rattle.parts.specs.Items.{at-index, index-of}
 use Rattle.values.specs.declared.text.Handle.{Handle}
 use Rattle.values.specs.declared.scalar.Scalar.{Scalar}

@@ -12,10 +12,10 @@ use Rattle.paper_expressions.specs.Limits.{integer-limit, real-limit}
 use Rattle.paper_expressions.specs.Values as paper
 use Rattle.paper_expressions.specs.Values.{unknown, integer, real, Value, one, sequence, unit}
 use Rattle.paper_expressions.specs.Clauses.{§11·1·1-1a, §11·1·1-1b, §11·1·1-1c, §11·1·1-1d, §11·1·2-1a, §11·1·2-1b, §11·1·2-1c}
-use Rattle.paper_expressions.specs.WithinLimits.{Limited, one-limited, integer-small, real-small}
+use Rattle.paper_expressions.specs.Laws.WithinLimits.{Limited, one-limited, integer-small, real-small}
 use Rattle.paper_expressions.specs.Operators as section-11
 use Rattle.paper_expressions.specs.Operators.{whole, decimal, cut, quotient}
-use Rattle.paper_expressions.specs.Only.{Answer, gives, Summand, absent, other-sort, entire, part, summand, arithF, whole-sum, real-sum, zeroZ, dividedF, Term, missing, other, amount, term, over, negateF}
+use Rattle.paper_expressions.specs.Laws.Only.{Answer, gives, Summand, absent, other-sort, entire, part, summand, arithF, whole-sum, real-sum, zeroZ, dividedF, Term, missing, other, amount, term, over, negateF}
 use Rattle.values.specs.declared.scalar.Scalar.{Scalar}
 use Rattle.values.specs.declared.scalar.Scalar.the-variants.{Unknown, Truth, Int, Real, Text}
 use Rattle.values.specs.declared.value.Value as Code

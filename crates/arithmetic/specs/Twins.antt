@@ -3,7 +3,7 @@ use mathlib.Core.Bool.{cond}
 use lib.IntN.{ℤ, pos, _+ℤ_, _-ℤ_, _*ℤ_}
 use Rattle.paper_expressions.specs.Values.{unit}
 use Rattle.paper_expressions.specs.Operators.{whole, decimal, quotient}
-use Rattle.paper_expressions.specs.Only.{zeroZ}
+use Rattle.paper_expressions.specs.Laws.Only.{zeroZ}
 use Rattle.numbers.specs.declared.number.Num.{Num}
 use Rattle.values.specs.declared.scalar.Scalar.{Scalar}
 use Rattle.values.specs.declared.scalar.Scalar.the-variants.{Unknown, Truth, Int, Real, Text}

@@ -4,7 +4,7 @@ ghost use mathlib.Core.List.{List as Seq, [], _∷_};
 ghost use Prim.Native.Nat.{ℕ, _≤_, _^_};
 ghost use lib.IntN.{pos, natAbs, _-ℤ_};
 ghost use Rattle.paper_expressions.specs.Operators as paper;
-ghost use Rattle.paper_expressions.specs.WithinLimits.{Limited};
+ghost use Rattle.paper_expressions.specs.Laws.WithinLimits.{Limited};
 ghost use Rattle.values.specs.Meaning.{meaningV};
 ghost use Rattle.operators.specs.Means.{Means, operation};
 ghost use Rattle.arithmetic.specs.Twins.{combined, withInt, withReal, arithC, quotientC, divideBy, divideC, negateC};

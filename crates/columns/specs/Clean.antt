@@ -7,13 +7,13 @@ use mathlib.Core.Logic.{⊎-elim}
 use mathlib.Core.List.{List, []}
 use lib.Dec.{eqb, ltb}
 use borrow.Author.Tests.{lt-ltb, ltb-true, ltb-false}
+use Rattle.paper_expressions.specs.Laws.Tests.{two}
 use Rattle.paper_expressions.specs.View.{At, at-first, at-later}
-use Rattle.paper_reading.specs.LlLaws.{two}
-use Rattle.paper_reading.specs.Lexical.{Rule, reserved-word, atom, integer, float, double-quoted-string, Token}
-use Rattle.paper_reading.specs.Tokens.{‘integer’, ‘float’, ‘double-quoted-string’, reserved-count}
-use Rattle.paper_reading.specs.Terminals.{Terminal, a-reserved-word, yes-no, a-data-type, another-atom, an-integer, a-float, a-string}
-use Rattle.paper_reading.specs.TerminalLaws.{reserved-below}
-use Rattle.paper_reading.specs.Refusals.{TokenBreach}
+use Rattle.paper_tokens.specs.Lexical.{Rule, reserved-word, atom, integer, float, double-quoted-string, Token}
+use Rattle.paper_tokens.specs.Tokens.{‘integer’, ‘float’, ‘double-quoted-string’, reserved-count}
+use Rattle.paper_tokens.specs.Terminals.{Terminal, a-reserved-word, yes-no, a-data-type, another-atom, an-integer, a-float, a-string}
+use Rattle.paper_tokens.specs.Laws.TerminalLaws.{reserved-below}
+use Rattle.paper_guideline.specs.Refusals.{TokenBreach}
 use Rattle.leaves.specs.Source
 use Source.{Source, Here, Stand, at-end, at-token, Clean}
 

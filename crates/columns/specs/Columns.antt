@@ -5,13 +5,13 @@ use mathlib.Core.Path.{_≡_, refl, sym, ap, subst, _∙_}
 use mathlib.Core.List.{List, [], _∷_, map}
 use lib.ListN.{length, take, drop, getD, replicate, length-drop, List·getD-append}
 use lib.Seq.{take-at, length-take-le}
-use Rattle.paper_reading.specs.Lexical.{Token, token, part, Tokens, at-end, skip, take-token}
-use Rattle.paper_reading.specs.Terminals.{Terminal, Terminals, none, next}
-use Rattle.paper_reading.specs.TreeLaws.{Each, all, _&_}
+use Rattle.paper_tokens.specs.Lexical.{Token, token, part, Tokens, at-end, skip, take-token}
+use Rattle.paper_tokens.specs.Terminals.{Terminal, Terminals, none, next}
+use Rattle.paper_guideline.specs.Laws.TreeLaws.{Each, all, _&_}
 use Rattle.tokens.specs.Reply.{filled, Accepted}
 use Rattle.leaves.specs.Source.{Source, source, Stand}
 use Rattle.leaves.specs.Source as Source
-use Rattle.paper_reading.specs.Refusals.{Stage, turn, Breach}
+use Rattle.paper_guideline.specs.Refusals.{Stage, turn, Breach}
 
 -- the columns stand for the tokens of the text, and it passes 1, 2 and 6 for tokens and brackets
 pub record Lexed (text kinds places lengths : List ℕ) : Type 0 where

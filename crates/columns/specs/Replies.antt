@@ -6,7 +6,7 @@ use mathlib.Core.Logic.{⊎-elim}
 use mathlib.Core.List.{List}
 use lib.ListN.{length, take, replicate, length-append}
 use lib.Seq.{length-take-le}
-use Rattle.paper_reading.specs.Limits.{token-limit}
+use Rattle.paper_guideline.specs.Limits.{token-limit}
 use Rattle.tokens.specs.declared.Read.{Read}
 use Rattle.tokens.specs.declared.Read.the-variants.{Tokens, Refused, Short}
 use Rattle.tokens.specs.Reply.{Turned, Reads}

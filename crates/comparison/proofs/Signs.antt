@@ -15,8 +15,8 @@ use Rattle.paper_expressions.specs.Bytes.{folded}
 use Rattle.paper_expressions.specs.Clauses.{Clause}
 use Rattle.paper_expressions.specs.Values as paper
 use Rattle.paper_expressions.specs.Operators as paper-op
-use Rattle.paper_expressions.specs.Compare.{Verdict, got, stuck, orderZ, orderT, three, compS, compL, compF, kindS, number, string, heads, on}
-use Rattle.paper_expressions.specs.Search.{no-clash}
+use Rattle.paper_expressions.specs.Laws.Compare.{Verdict, got, stuck, orderZ, orderT, three, compS, compL, compF, kindS, number, string, heads, on}
+use Rattle.paper_expressions.specs.Laws.Search.{no-clash}
 use Rattle.numbers.specs.Signs.{signed, verdict}
 use Rattle.numbers.specs.declared.sign.Sign as S
 use Rattle.numbers.specs.declared.sign.Sign.the-variants.{Greater, Less, Equal, Unfit}

@@ -2,7 +2,7 @@
 ghost use mathlib.Core.Path.{_≡_};
 ghost use mathlib.Core.List.{List as Seq};
 ghost use Prim.Native.Nat.{ℕ};
-ghost use Rattle.paper_expressions.specs.Compare.{compF, compS, kindS, number, string, compL};
+ghost use Rattle.paper_expressions.specs.Laws.Compare.{compF, compS, kindS, number, string, compL};
 ghost use Rattle.numbers.specs.Signs.{verdict};
 ghost use Rattle.values.specs.Meaning.{meaning, meaningL, meaningV, bytesOf, beside, goesOn, endOf, sizeOf};
 use numbers::Sign;

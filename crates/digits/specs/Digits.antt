@@ -6,7 +6,7 @@ use Prim.Native.Nat.{ℕ, zero, suc, _+_, _^_, _/_, _%_, _≤_, _<_}
 use native.Mathlib.Omega.{arith}
 use lib.Dec.{ltb}
 use borrow.Author.Tests.{lt-ltb, le-ltb}
-use Rattle.paper_reading.specs.Line.{digits-in, digits-of}
+use Rattle.paper_guideline.specs.Line.{digits-in, digits-of}
 
 -- the last digit of a number, as a byte
 abbrev pub digit-of : ℕ → ℕ

@@ -3,7 +3,7 @@ use mathlib.Core.Path.{_≡_, refl}
 use mathlib.Core.List.{List, [], _∷_, _++_}
 use Prim.Native.Nat.{ℕ}
 use lib.IntN.{ℤ, pos, negsuc, natAbs}
-use Rattle.paper_reading.specs.Line.{with-sign}
+use Rattle.paper_guideline.specs.Line.{with-sign}
 
 -- a minus, or nothing
 abbrev pub sign-of : ℤ → List ℕ

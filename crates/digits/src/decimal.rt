@@ -1,6 +1,6 @@
 // Numbers in decimal digits, appended to a lent buffer.
 ghost use mathlib.Core.List.{[], _∷_};
-ghost use Rattle.paper_reading.specs.Line.{digits-of, with-point};
+ghost use Rattle.paper_guideline.specs.Line.{digits-of, with-point};
 ghost use Rattle.digits.specs.Appends.{Appends};
 ghost use Rattle.digits.specs.Digits.{digit-of};
 use crate::append::byte;

@@ -1,7 +1,7 @@
 // Numbers with their sign.
 ghost use mathlib.Core.Path.{_≡_};
 ghost use lib.IntN.{natAbs};
-ghost use Rattle.paper_reading.specs.Line.{with-sign, with-point, digits-of};
+ghost use Rattle.paper_guideline.specs.Line.{with-sign, with-point, digits-of};
 ghost use Rattle.digits.specs.Appends.{Appends};
 ghost use Rattle.digits.specs.Signed.{sign-of};
 use crate::append::byte;

@@ -13,9 +13,9 @@ use Rattle.paper_expressions.specs.View.{View, Apart}
 use Rattle.paper_expressions.specs.Operators.{Op, F}
 use Rattle.paper_expressions.specs.Expressions.{Expr, Exprs, Atom, IntegerLit, FloatLit, StringLit, Paren, Listing, Apply, ε, _▸_}
 use Rattle.paper_expressions.specs.Evaluation.{Elements, elements-none, elements-more, Evaluates, listing, Values, values-none, values-more}
-use Rattle.paper_expressions.specs.WithinLimits as limits
-use Rattle.paper_expressions.specs.WithinLimits.{Held, Modest, listing-modest, apply-modest, AllModest, none-modest, EachLimited, all-limited}
-use Rattle.paper_expressions.specs.Promise as promise
+use Rattle.paper_expressions.specs.Laws.WithinLimits as limits
+use Rattle.paper_expressions.specs.Laws.WithinLimits.{Held, Modest, listing-modest, apply-modest, AllModest, none-modest, EachLimited, all-limited}
+use Rattle.paper_expressions.specs.Laws.Promise as promise
 use Rattle.parts.specs.Codes.{code, kind}
 use Rattle.parts.specs.CodeRange.{operator-code}
 use Rattle.parts.specs.Part.{number-of, operands}

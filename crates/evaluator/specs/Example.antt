@@ -14,10 +14,10 @@ use Rattle.paper_expressions.specs.Types.{Integer, an-integer}
 use Rattle.paper_expressions.specs.View.{View, Item, Task, At, at-first, at-later}
 use Rattle.paper_expressions.specs.Operators.{if, extreme, min, is-in}
 use Rattle.paper_expressions.specs.Expressions.{Expr, Atom, IntegerLit, Listing, Apply, ε, _▸_}
-use Rattle.paper_expressions.specs.WithinLimits.{Limited, one-limited, integer-small, Modest, atom-modest, integer-modest, listing-modest, apply-modest, none-modest, more-modest}
-use Rattle.paper_expressions.specs.Typing.{type-has}
-use Rattle.paper_expressions.specs.Promise.{eval-only}
-use Rattle.paper_expressions.specs.Soundness.{sound-if}
+use Rattle.paper_expressions.specs.Laws.WithinLimits.{Limited, one-limited, integer-small, Modest, atom-modest, integer-modest, listing-modest, apply-modest, none-modest, more-modest}
+use Rattle.paper_expressions.specs.Laws.Typing.{type-has}
+use Rattle.paper_expressions.specs.Laws.Promise.{eval-only}
+use Rattle.paper_expressions.specs.Laws.Soundness.{sound-if}
 use Rattle.parts.specs.Codes.{declared-code}
 use Rattle.parts.specs.Texts.{textAt}
 use Rattle.parts.specs.Part.{Table, table, Ends, Within}

@@ -17,8 +17,8 @@ use Rattle.paper_expressions.specs.Clauses.{Clause}
 use Rattle.paper_expressions.specs.View.{View, Item, At, resolve-data-2, resolve-data-3, Apart}
 use Rattle.paper_expressions.specs.Expressions.{Expr, Atom, IntegerLit, FloatLit, StringLit, Paren, Listing, Apply}
 use Rattle.paper_expressions.specs.Evaluation.{EvaluateData, data-2, data-3, Evaluates, atom-data, atom-text, number-integer, number-float, string}
-use Rattle.paper_expressions.specs.Search.{at-one}
-use Rattle.paper_expressions.specs.WithinLimits.{Modest, integer-modest, float-modest}
+use Rattle.paper_expressions.specs.Laws.Search.{at-one}
+use Rattle.paper_expressions.specs.Laws.WithinLimits.{Modest, integer-modest, float-modest}
 use Rattle.parts.specs.Codes.{kind}
 use Rattle.parts.specs.CodeRange.{operator-code}
 use Rattle.parts.specs.Texts.{cells, textAt}

@@ -9,10 +9,10 @@ use Rattle.paper_expressions.specs.Clauses.{Clause}
 use Rattle.paper_expressions.specs.View.{View, Sound}
 use Rattle.paper_expressions.specs.Expressions.{Expr, HasType}
 use Rattle.paper_expressions.specs.Evaluation.{Evaluates}
-use Rattle.paper_expressions.specs.WithinLimits.{Modest}
-use Rattle.paper_expressions.specs.Search.{Same}
-use Rattle.paper_expressions.specs.Promise.{promised, one-value}
-use Rattle.paper_expressions.specs.Parentheses.{bare, value-of-bare}
+use Rattle.paper_expressions.specs.Laws.WithinLimits.{Modest}
+use Rattle.paper_expressions.specs.Laws.Search.{Same}
+use Rattle.paper_expressions.specs.Laws.Promise.{promised, one-value}
+use Rattle.paper_expressions.specs.Laws.Parentheses.{bare, value-of-bare}
 use Rattle.parts.specs.Part.{Table, Ends, Within}
 use Rattle.values.specs.declared.value.Value.{Value}
 use Rattle.values.specs.Meaning.{meaningV}

@@ -11,7 +11,7 @@ use Rattle.paper_expressions.specs.Clauses.{Clause}
 use Rattle.paper_expressions.specs.View.{View}
 use Rattle.paper_expressions.specs.Expressions.{Expr, Exprs}
 use Rattle.paper_expressions.specs.Evaluation.{Evaluates, Values, values-none, values-more}
-use Rattle.paper_expressions.specs.WithinLimits.{Modest, AllModest, none-modest, more-modest}
+use Rattle.paper_expressions.specs.Laws.WithinLimits.{Modest, AllModest, none-modest, more-modest}
 use Rattle.parts.specs.Part.{Table, sizes, number-of, operands, HoldsAll, Ends, Within, Withins}
 use Rattle.parts.specs.Operands.{ended, within-kids, nth-of, within-nth, Left, left-all, left-ends, left-step}
 use Rattle.values.specs.declared.value.Value.{Value}

@@ -9,16 +9,16 @@ use lib.Dec.{eqb, ltb}
 use lib.IntN.{ℤ, pos, negsuc, negℤ, natAbs, _+ℤ_, -ℤ-+ℤ-cancel}
 use lib.ListN.{length}
 use borrow.Author.Tests.{le-ltb, ltb-true, ltb-false, eqb-true, eq-eqb, ne-eqb}
+use Rattle.paper_expressions.specs.Laws.Tests.{two}
 use Rattle.paper_expressions.specs.Limits.{integer-limit, real-limit}
 use Rattle.paper_expressions.specs.Limits as Values
-use Rattle.paper_reading.specs.FormsLaws.{two}
-use Rattle.paper_reading.specs.Tokens.{‘other-atom’, ‘integer’, ‘float’, reserved-count}
-use Rattle.paper_reading.specs.Lexical.{Token, part, inner}
-use Rattle.paper_reading.specs.Terminals.{Terminal, a-reserved-word, yes-no, a-data-type, another-atom, an-integer, a-float, a-string}
-use Rattle.paper_reading.specs.TerminalLaws.{reserved-below}
-use Rattle.paper_reading.specs.Literals.{whole, thousandths, behind-point}
-use Rattle.paper_reading.specs.Limits.{decimal-limit}
-use Rattle.paper_reading.specs.Refusals.{TokenBreach, long-name, long-text, large-integer, large-real, long-fraction}
+use Rattle.paper_tokens.specs.Tokens.{‘other-atom’, ‘integer’, ‘float’, reserved-count}
+use Rattle.paper_tokens.specs.Lexical.{Token, part, inner}
+use Rattle.paper_tokens.specs.Terminals.{Terminal, a-reserved-word, yes-no, a-data-type, another-atom, an-integer, a-float, a-string}
+use Rattle.paper_tokens.specs.Laws.TerminalLaws.{reserved-below}
+use Rattle.paper_tokens.specs.Literals.{whole, thousandths, behind-point}
+use Rattle.paper_guideline.specs.Limits.{decimal-limit}
+use Rattle.paper_guideline.specs.Refusals.{TokenBreach, long-name, long-text, large-integer, large-real, long-fraction}
 use Rattle.parts.specs.Texts.{cells, literal, moved}
 use Rattle.leaves.specs.Cells.{part-cells, length-cells}
 use Rattle.leaves.specs.Numbers.{digits, fixed, signed, integer-load, float-load}

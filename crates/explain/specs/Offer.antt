@@ -8,9 +8,9 @@ use lib.ListN.{length, take, drop, getD, set, take-append-drop}
 use lib.Seq.{take-length, take-suc, take-suc-set}
 use native.Mathlib.Numerals.{add-one}
 use Rattle.grammar.specs.declared.Answer.{Answer}
-use Rattle.paper_reading.specs.Nonterminals.{⟨process⟩}
-use Rattle.paper_reading.specs.Guideline.{Sentence-of, Guideline, Begins, First-bad}
-use Rattle.paper_reading.specs.Limits.{token-limit}
+use Rattle.paper_grammar.specs.Nonterminals.{⟨process⟩}
+use Rattle.paper_grammar.specs.Sentence.{Sentence-of, Guideline, Begins, First-bad}
+use Rattle.paper_guideline.specs.Limits.{token-limit}
 use Rattle.grammar.specs.declared.Start.the-variants.{Process}
 use Rattle.grammar.specs.declared.Answer.the-variants.{Accepted, Refused, Unread}
 use Rattle.grammar.specs.Reply.{Verdict}

@@ -10,10 +10,10 @@ use lib.Dec.{eqb, leb}
 use lib.ListN.{length, take, drop, getD, length-append, length-drop}
 use lib.Seq.{drop-cons, getD-drop, take-append-add}
 use borrow.Author.Tests.{eqb-true, eqb-false}
-use Rattle.paper_reading.specs.Kinds.{other, letter, power, digit, minus, point, quote, backslash, blank, slash, star, high, double-quote, kindOf}
-use Rattle.paper_reading.specs.Forms.{any, one, _then_, _or_, no, One, Then, Match, isIn}
-use Rattle.paper_reading.specs.FormsLaws.{two, contra, or-cases}
-use Rattle.paper_reading.specs.Lexical.{Rule, atom, double-quoted-string, bare-atom, enclosed, quoted-atom, string-form, Matches, part, Fits, Stuck}
+use Rattle.paper_expressions.specs.Laws.Tests.{two, contra, or-cases}
+use Rattle.paper_tokens.specs.Kinds.{other, letter, power, digit, minus, point, quote, backslash, blank, slash, star, high, double-quote, kindOf}
+use Rattle.paper_tokens.specs.Forms.{any, one, _then_, _or_, no, One, Then, Match, isIn}
+use Rattle.paper_tokens.specs.Lexical.{Rule, atom, double-quoted-string, bare-atom, enclosed, quoted-atom, string-form, Matches, part, Fits, Stuck}
 
 -- no quote behind the place p closes the one there
 abbrev pub Unclosed : List ℕ → ℕ → Type 0

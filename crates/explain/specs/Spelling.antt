@@ -11,10 +11,10 @@ use lib.Dec.{eqb, leb, ltb}
 use lib.ListN.{length, getD, List·getD-append, List·getD-map}
 use lib.Seq.{getD-append-add}
 use borrow.Author.Tests.{leb-true, ltb-true, ltb-false, ne-eqb}
+use Rattle.paper_expressions.specs.Laws.Tests.{and-l, and-r, two, every}
 use Rattle.paper_expressions.specs.Bytes.{bytes}
-use Rattle.paper_reading.specs.LlLaws.{and-l, and-r, two, every}
-use Rattle.paper_reading.specs.Words.{reserved}
-use Rattle.paper_reading.specs.LeftOut.{left-out-words}
+use Rattle.paper_tokens.specs.Words.{reserved}
+use Rattle.paper_guideline.specs.LeftOut.{left-out-words}
 
 -- the reserved strings by their terminals, and words for the tokens of the other kinds
 unfoldable pub others : List String

@@ -7,10 +7,10 @@ use mathlib.Core.Logic.{_⊎_}
 use mathlib.Core.Option.{Option, none, some}
 use mathlib.Core.List.{List, [], _∷_}
 use lib.ListN.{length, getD}
-use Rattle.paper_expressions.specs.Parentheses.{bare}
+use Rattle.paper_expressions.specs.Laws.Parentheses.{bare}
 use Rattle.paper_expressions.specs.View.{At}
-use Rattle.paper_reading.specs.Limits.{text-limit, part-limit}
-use Rattle.paper_reading.specs.Structure.{Outermost}
+use Rattle.paper_guideline.specs.Limits.{text-limit, part-limit}
+use Rattle.paper_guideline.specs.Structure.{Outermost}
 use Rattle.parts.specs.Part.{Table, size, Holds}
 use Rattle.leaves.specs.Source.{Source, Clean}
 use Rattle.reader.specs.Store.{Beside}

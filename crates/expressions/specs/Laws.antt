@@ -12,13 +12,13 @@ use native.Mathlib.Decide.{decLt}
 use lib.Dec.{eqb}
 use lib.ListN.{length, getD, set, length-set}
 use lib.Seq.{getD-set-same, getD-set-other}
-use Rattle.paper_expressions.specs.Parentheses.{bare}
+use Rattle.paper_expressions.specs.Laws.Tests.{contra}
+use Rattle.paper_expressions.specs.Laws.Parentheses.{bare}
 use Rattle.paper_expressions.specs.View.{At, at-first, at-later}
-use Rattle.paper_reading.specs.Limits.{part-limit}
-use Rattle.paper_reading.specs.Tokens.{“=”}
-use Rattle.paper_reading.specs.FormsLaws.{contra}
-use Rattle.paper_reading.specs.Tree.{Where}
-use Rattle.paper_reading.specs.Structure.{Name, Outermost}
+use Rattle.paper_guideline.specs.Limits.{part-limit}
+use Rattle.paper_tokens.specs.Tokens.{“=”}
+use Rattle.paper_guideline.specs.Tree.{Where}
+use Rattle.paper_guideline.specs.Structure.{Name, Outermost}
 use Rattle.parts.specs.Texts.{textAt}
 use Rattle.parts.specs.Part.{Table, size, Holds}
 use Rattle.parts.specs.Kept.{Kept, holds-kept}

@@ -11,9 +11,9 @@ use lib.Dec.{eqb, ltb}
 use lib.ListN.{length, getD, drop, set, length-set, drop-of-length-le}
 use lib.Seq.{drop-cons, drop-set-lt, getD-set-same}
 use borrow.Author.Tests.{eq-eqb, ne-eqb, eqb-true, eqb-false}
-use Rattle.paper_reading.specs.Ll.{Sym, T, N, Alt, _⇒_, Next, stop, go, find, choose, adv, blank}
-use Rattle.paper_reading.specs.LlLaws.{contra, and-l, and-r, two}
-use Rattle.paper_reading.specs.Form.{G}
+use Rattle.paper_expressions.specs.Laws.Tests.{contra, and-l, and-r, two}
+use Rattle.paper_grammar.specs.Laws.Ll.{Sym, T, N, Alt, _⇒_, Next, stop, go, find, choose, adv, blank}
+use Rattle.paper_grammar.specs.Laws.Form.{G}
 use Rattle.grammar.specs.Tables.{symOf, side, altOf, sideOf, choiceOf}
 use Rattle.grammar.specs.Labels.{mark, label}
 use Rattle.grammar.specs.Machine.{passed, past}

@@ -8,9 +8,9 @@ use lib.Dec.{leb}
 use lib.ListN.{length, getD, drop, set, length-set, drop-of-length-le, List·getD-eq-default}
 use lib.Seq.{drop-cons, getD-set-same}
 use borrow.Author.Tests.{le-leb, lt-leb}
-use Rattle.paper_reading.specs.Limits.{token-limit}
-use Rattle.paper_reading.specs.Ll.{Sym, N}
-use Rattle.paper_reading.specs.Same.{accepts-sentence, refuses-at}
+use Rattle.paper_guideline.specs.Limits.{token-limit}
+use Rattle.paper_grammar.specs.Laws.Ll.{Sym, N}
+use Rattle.paper_grammar.specs.Laws.Same.{accepts-sentence, refuses-at}
 use Rattle.grammar.specs.declared.Start.{Start}
 use Rattle.grammar.specs.declared.Answer.{Answer}
 use Rattle.grammar.specs.declared.Answer.the-variants.{Accepted, Refused, Unread}

@@ -12,9 +12,9 @@ use lib.Dec.{eqb, ltb, leb}
 use lib.ListN.{length, getD, take, drop, length-append, length-take, drop-of-length-le, length-map, List·getD-append, List·getD-eq-default, List·getD-map}
 use lib.Seq.{slice, slice-cons, take-append-seam, take-append-add, drop-append-add, getD-append-add, getD-take, getD-drop}
 use borrow.Author.Tests.{eq-eqb, ne-eqb, ltb-true, ltb-false, leb-true, le-ltb, lt-ltb}
-use Rattle.paper_reading.specs.Ll.{Sym, T, N, Alt, _⇒_, find}
-use Rattle.paper_reading.specs.LlLaws.{and-l, and-r, two, every}
-use Rattle.paper_reading.specs.Form.{rows, blanks, G}
+use Rattle.paper_expressions.specs.Laws.Tests.{and-l, and-r, two, every}
+use Rattle.paper_grammar.specs.Laws.Ll.{Sym, T, N, Alt, _⇒_, find}
+use Rattle.paper_grammar.specs.Laws.Form.{rows, blanks, G}
 use Rattle.grammar.specs.Tables.{code, symOf, cells, record-of, side, first, joined, alternatives, offsets, alternatives-table, rows-table, empty-table, altOf, byteOf, sideOf, seekIn, choiceOf}
 
 -- the ten bytes of each alternative

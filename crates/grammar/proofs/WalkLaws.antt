@@ -11,9 +11,9 @@ use lib.Dec.{ltb, eqb}
 use lib.ListN.{length, getD, drop, set, length-set, drop-of-length-le, List·getD-eq-default}
 use lib.Seq.{drop-cons, drop-drop, getD-drop, getD-set-same, getD-set-other, set-out}
 use borrow.Author.Tests.{ltb-true, ltb-false, eqb-true, eqb-false}
-use Rattle.paper_reading.specs.Ll.{Sym, Next, stop, go, Out, accept, refuse, after, adv, blank, run}
-use Rattle.paper_reading.specs.LlLaws.{two}
-use Rattle.paper_reading.specs.Form.{G}
+use Rattle.paper_expressions.specs.Laws.Tests.{two}
+use Rattle.paper_grammar.specs.Laws.Ll.{Sym, Next, stop, go, Out, accept, refuse, after, adv, blank, run}
+use Rattle.paper_grammar.specs.Laws.Form.{G}
 use Rattle.grammar.specs.declared.Answer.the-variants.{Accepted, Refused}
 use Rattle.grammar.specs.declared.Turn.{Turn}
 use Rattle.grammar.specs.declared.Turn.the-variants.{On, Stuck}

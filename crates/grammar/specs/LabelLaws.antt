@@ -9,9 +9,10 @@ use native.Mathlib.Omega.{arith}
 use lib.Dec.{eqb}
 use lib.ListN.{length}
 use borrow.Author.Tests.{eqb-true}
-use Rattle.paper_reading.specs.Ll.{Sym, T, N, Alt, _⇒_, Next, stop, go, Out, accept, refuse, find, choose, after, adv, blank, run}
-use Rattle.paper_reading.specs.LlLaws.{and-l, and-r, two, found-mem}
-use Rattle.paper_reading.specs.Form.{G}
+use Rattle.paper_expressions.specs.Laws.Tests.{and-l, and-r, two}
+use Rattle.paper_grammar.specs.Laws.Ll.{Sym, T, N, Alt, _⇒_, Next, stop, go, Out, accept, refuse, find, choose, after, adv, blank, run}
+use Rattle.paper_grammar.specs.Laws.LlLaws.{found-mem}
+use Rattle.paper_grammar.specs.Laws.Form.{G}
 use Rattle.grammar.specs.Labels.{mark, label, following, labels}
 
 -- the tokens w come of these symbols, and l has their labels

@@ -2,14 +2,14 @@
 use Prim.Native.Nat.{ℕ, suc}
 use mathlib.Core.Path.{_≡_, refl}
 use mathlib.Core.List.{List, [], _∷_, map}
-use Rattle.paper_reading.specs.Ll.{N}
-use Rattle.paper_reading.specs.Tokens.{“and”, “caption”, “completed”, “component”, “data”, “description”, “end”, “enquiry”, “mandatory”, “plan”}
-use Rattle.paper_reading.specs.Tokens.{“postcondition”, “precondition”, “schedule-constraint”, “source”, “terminal”, “trigger”, “type”, “::”}
-use Rattle.paper_reading.specs.Tokens.{“semicolon”, “dot”, “comma”, “open”, “close”, “[”, “]”, “=”, “+”, “-”, “*”, ‘other-atom’, ‘yes-or-no’}
-use Rattle.paper_reading.specs.Tokens.{‘data-type’, ‘integer’, ‘float’, ‘double-quoted-string’}
-use Rattle.paper_reading.specs.Form.{rows, blanks, ‹Process›, ‹Top›, ‹Plan›, ‹Enquiry›, ‹Data›, ‹Gen›, ‹Is›, ‹Plan-attrs›, ‹Enquiry-attrs›}
-use Rattle.paper_reading.specs.Form.{‹Comp-attrs›, ‹Source-attrs›, ‹Type›, ‹Data-name›, ‹Atom›, ‹Assertion›, ‹Assertion-tail›, ‹Expr›, ‹Expr-tail›}
-use Rattle.paper_reading.specs.Form.{‹Expr-atom›, ‹Xna›, ‹List›, ‹List-tail›}
+use Rattle.paper_grammar.specs.Laws.Ll.{N}
+use Rattle.paper_tokens.specs.Tokens.{“and”, “caption”, “completed”, “component”, “data”, “description”, “end”, “enquiry”, “mandatory”, “plan”}
+use Rattle.paper_tokens.specs.Tokens.{“postcondition”, “precondition”, “schedule-constraint”, “source”, “terminal”, “trigger”, “type”, “::”}
+use Rattle.paper_tokens.specs.Tokens.{“semicolon”, “dot”, “comma”, “open”, “close”, “[”, “]”, “=”, “+”, “-”, “*”, ‘other-atom’, ‘yes-or-no’}
+use Rattle.paper_tokens.specs.Tokens.{‘data-type’, ‘integer’, ‘float’, ‘double-quoted-string’}
+use Rattle.paper_grammar.specs.Laws.Form.{rows, blanks, ‹Process›, ‹Top›, ‹Plan›, ‹Enquiry›, ‹Data›, ‹Gen›, ‹Is›, ‹Plan-attrs›, ‹Enquiry-attrs›}
+use Rattle.paper_grammar.specs.Laws.Form.{‹Comp-attrs›, ‹Source-attrs›, ‹Type›, ‹Data-name›, ‹Atom›, ‹Assertion›, ‹Assertion-tail›, ‹Expr›, ‹Expr-tail›}
+use Rattle.paper_grammar.specs.Laws.Form.{‹Expr-atom›, ‹Xna›, ‹List›, ‹List-tail›}
 use Rattle.grammar.specs.Labels.{labels}
 
 -- the token begins an alternative of the symbol, or stands inside one

@@ -2,8 +2,8 @@
 use Prim.Native.Nat.{ℕ, suc}
 use mathlib.Core.Option.{Option, none, some}
 use mathlib.Core.List.{List, [], _∷_}
-use Rattle.paper_reading.specs.Ll.{Sym, T, N, Next, stop, go, find, adv}
-use Rattle.paper_reading.specs.Form.{G}
+use Rattle.paper_grammar.specs.Laws.Ll.{Sym, T, N, Next, stop, go, find, adv}
+use Rattle.paper_grammar.specs.Laws.Form.{G}
 
 abbrev pub mark : Option (List (Sym ℕ)) → ℕ → ℕ → ℕ
 mark (some β) x l = suc x

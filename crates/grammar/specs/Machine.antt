@@ -5,8 +5,8 @@ use mathlib.Core.Bool.{Bool, true, false, cond, _&&_}
 use mathlib.Core.List.{List, [], _∷_, map}
 use lib.ListN.{length, getD, drop}
 use lib.Dec.{eqb}
-use Rattle.paper_reading.specs.Ll.{Sym, T, N, stop, go, accept, refuse, adv, run}
-use Rattle.paper_reading.specs.Form.{G}
+use Rattle.paper_grammar.specs.Laws.Ll.{Sym, T, N, stop, go, accept, refuse, adv, run}
+use Rattle.paper_grammar.specs.Laws.Form.{G}
 use Rattle.grammar.specs.declared.Turn.{Turn}
 use Rattle.grammar.specs.declared.Turn.the-variants.{On, Stuck}
 use Rattle.grammar.specs.declared.Answer.{Answer}

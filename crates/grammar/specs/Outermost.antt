@@ -9,9 +9,9 @@ use lib.Dec.{eqb, leb}
 use lib.ListN.{length, getD, drop}
 use lib.Seq.{getD-drop}
 use borrow.Author.Tests.{eqb-true, leb-true, le-leb}
-use Rattle.paper_reading.specs.Ll.{Sym, T, N, Alt, _⇒_}
-use Rattle.paper_reading.specs.LlLaws.{contra, and-l, and-r, or-cases, not-both, every, every-at}
-use Rattle.paper_reading.specs.Form.{rows, blanks, G, ‹Atom›, ‹Expr›, ‹Xna›}
+use Rattle.paper_expressions.specs.Laws.Tests.{contra, and-l, and-r, or-cases, not-both, every, every-at}
+use Rattle.paper_grammar.specs.Laws.Ll.{Sym, T, N, Alt, _⇒_}
+use Rattle.paper_grammar.specs.Laws.Form.{rows, blanks, G, ‹Atom›, ‹Expr›, ‹Xna›}
 use Rattle.grammar.specs.LabelLaws.{Labelled, at-end, inside, begins, left-empty}
 
 -- the label of a token that begins an expression. The symbols of expressions are ‹Expr› and those after it

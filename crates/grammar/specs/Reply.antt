@@ -4,11 +4,11 @@ use mathlib.Core.Bool.{cond}
 use mathlib.Core.List.{List, [], _∷_}
 use lib.Dec.{leb}
 use lib.ListN.{length}
-use Rattle.paper_reading.specs.Limits.{token-limit}
-use Rattle.paper_reading.specs.Nonterminals.{⟨process⟩, ⟨expression⟩}
-use Rattle.paper_reading.specs.Guideline.{Sentence-of, First-bad}
-use Rattle.paper_reading.specs.Ll.{N}
-use Rattle.paper_reading.specs.Form.{‹Process›, ‹Expr›}
+use Rattle.paper_guideline.specs.Limits.{token-limit}
+use Rattle.paper_grammar.specs.Nonterminals.{⟨process⟩, ⟨expression⟩}
+use Rattle.paper_grammar.specs.Sentence.{Sentence-of, First-bad}
+use Rattle.paper_grammar.specs.Laws.Ll.{N}
+use Rattle.paper_grammar.specs.Laws.Form.{‹Process›, ‹Expr›}
 use Rattle.grammar.specs.declared.Start.{Start}
 use Rattle.grammar.specs.declared.Start.the-variants.{Process, Expression}
 use Rattle.grammar.specs.declared.Answer.{Answer}

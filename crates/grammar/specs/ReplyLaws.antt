@@ -8,10 +8,10 @@ use lib.Dec.{leb}
 use lib.ListN.{length, getD, take}
 use lib.Seq.{ext-getD, length-take-le, getD-take}
 use borrow.Author.Tests.{le-leb}
-use Rattle.paper_reading.specs.Limits.{token-limit}
-use Rattle.paper_reading.specs.Guideline.{Sentence-of, First-bad}
-use Rattle.paper_reading.specs.Ll.{N}
-use Rattle.paper_reading.specs.Same.{Starts, at-process, at-expression, sentence-accepted, first-bad-one}
+use Rattle.paper_guideline.specs.Limits.{token-limit}
+use Rattle.paper_grammar.specs.Sentence.{Sentence-of, First-bad}
+use Rattle.paper_grammar.specs.Laws.Ll.{N}
+use Rattle.paper_grammar.specs.Laws.Same.{Starts, at-process, at-expression, sentence-accepted, first-bad-one}
 use Rattle.grammar.specs.declared.Start.{Start}
 use Rattle.grammar.specs.declared.Start.the-variants.{Process, Expression}
 use Rattle.grammar.specs.declared.Answer.{Answer}

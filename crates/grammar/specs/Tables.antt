@@ -4,8 +4,8 @@ use mathlib.Core.Bool.{Bool, true, false, cond}
 use mathlib.Core.List.{List, [], _∷_, _++_, map}
 use lib.Dec.{eqb, ltb}
 use lib.ListN.{length, getD}
-use Rattle.paper_reading.specs.Ll.{Sym, T, N, Alt, _⇒_}
-use Rattle.paper_reading.specs.Form.{rows, blanks, G}
+use Rattle.paper_grammar.specs.Laws.Ll.{Sym, T, N, Alt, _⇒_}
+use Rattle.paper_grammar.specs.Laws.Form.{rows, blanks, G}
 
 -- a symbol as a byte, and back
 abbrev pub code : Sym ℕ → ℕ

@@ -10,8 +10,8 @@ use lib.Dec.{eqb}
 use lib.ListN.{getD, length}
 use lib.Seq.{drop-cons}
 use borrow.Author.Tests.{eq-eqb, ne-eqb}
-use Rattle.paper_expressions.specs.Search.{sameb}
-use Rattle.paper_reading.specs.Lexical.{part, inner}
+use Rattle.paper_expressions.specs.Laws.Search.{sameb}
+use Rattle.paper_tokens.specs.Lexical.{part, inner}
 use Rattle.parts.specs.Texts.{cells}
 use Rattle.leaves.specs.Numbers.{three, above, below, signed}
 

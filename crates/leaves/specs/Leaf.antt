@@ -9,18 +9,18 @@ use lib.Dec.{leb}
 use lib.IntN.{natAbs}
 use lib.ListN.{length}
 use borrow.Author.Tests.{leb-true, leb-false}
+use Rattle.paper_expressions.specs.Laws.Tests.{two}
 use Rattle.paper_expressions.specs.Limits as Values
 use Values.{integer-limit, real-limit}
-use Rattle.paper_expressions.specs.Functors.{functorF}
+use Rattle.paper_expressions.specs.Laws.Functors.{functorF}
 use Rattle.paper_expressions.specs.Expressions.{Expr, Atom, IntegerLit, FloatLit, StringLit}
-use Rattle.paper_reading.specs.Lexical.{Token, atom, integer, float, double-quoted-string, part, inner}
-use Rattle.paper_reading.specs.Terminals.{Terminal, name}
-use Rattle.paper_reading.specs.Terminals
-use Rattle.paper_reading.specs.Literals.{whole, thousandths}
-use Rattle.paper_reading.specs.Limits.{text-limit}
-use Rattle.paper_reading.specs.Refusals.{TokenBreach, long-name, long-text, large-integer, large-real}
-use Rattle.paper_reading.specs.LlLaws.{two}
-use Rattle.paper_reading.specs.TerminalLaws.{terminal-is, one-terminal, atom-kind}
+use Rattle.paper_tokens.specs.Lexical.{Token, atom, integer, float, double-quoted-string, part, inner}
+use Rattle.paper_tokens.specs.Terminals.{Terminal, name}
+use Rattle.paper_tokens.specs.Terminals
+use Rattle.paper_tokens.specs.Literals.{whole, thousandths}
+use Rattle.paper_guideline.specs.Limits.{text-limit}
+use Rattle.paper_guideline.specs.Refusals.{TokenBreach, long-name, long-text, large-integer, large-real}
+use Rattle.paper_tokens.specs.Laws.TerminalLaws.{terminal-is, one-terminal, atom-kind}
 use Rattle.parts.specs.Codes.{code, kind}
 use Rattle.parts.specs.Texts.{cells, handle, textAt, text-of, literal}
 use Rattle.parts.specs.Part.{Load, OpLoad}

@@ -11,11 +11,11 @@ use native.Mathlib.Omega.{arith}
 use lib.Dec.{ltb}
 use lib.ListN.{getD}
 use borrow.Author.Tests.{ltb-true}
+use Rattle.paper_expressions.specs.Laws.Tests.{two, and-l, and-r}
 use Rattle.paper_expressions.specs.Bytes.{bytes}
 use Rattle.paper_expressions.specs.Operators.{Op, arithmetic, divide, compare, and, or, includes, oneof, if, negate, isknown, not, count, sum, extreme, nth, is-in, no-such, Name, _means_, functors}
-use Rattle.paper_expressions.specs.Functors.{meantF, functorF}
-use Rattle.paper_expressions.specs.Search.{sameb}
-use Rattle.paper_reading.specs.LlLaws.{two, and-l, and-r}
+use Rattle.paper_expressions.specs.Laws.Functors.{meantF, functorF}
+use Rattle.paper_expressions.specs.Laws.Search.{sameb}
 use Rattle.parts.specs.Codes.{code}
 use Rattle.parts.specs.Part.{OpLoad}
 use Rattle.parts.specs.Texts.{cells, textAt}

@@ -9,9 +9,9 @@ use native.Mathlib.Omega.{arith}
 use lib.Dec.{eqb, leb}
 use lib.IntN.{pos, natAbs, negℤ}
 use borrow.Author.Tests.{ne-eqb, le-leb, le-ltb}
+use Rattle.paper_expressions.specs.Laws.Tests.{two}
 use Rattle.paper_expressions.specs.Limits.{integer-limit, real-limit}
-use Rattle.paper_reading.specs.Literals.{whole, thousandths, behind-point}
-use Rattle.paper_reading.specs.LlLaws.{two}
+use Rattle.paper_tokens.specs.Literals.{whole, thousandths, behind-point}
 use Rattle.parts.specs.Texts.{literal, moved, literal-moved}
 
 -- ---- as they are read

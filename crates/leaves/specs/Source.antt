@@ -3,9 +3,9 @@ use Prim.Native.Nat.{ℕ, suc, _+_, _<_, _≤_}
 use mathlib.Core.Path.{_≡_}
 use mathlib.Core.List.{List, [], _∷_}
 use lib.ListN.{length, getD}
-use Rattle.paper_reading.specs.Lexical.{Token, part}
-use Rattle.paper_reading.specs.Terminals.{Terminal}
-use Rattle.paper_reading.specs.Refusals.{TokenBreach}
+use Rattle.paper_tokens.specs.Lexical.{Token, part}
+use Rattle.paper_tokens.specs.Terminals.{Terminal}
+use Rattle.paper_guideline.specs.Refusals.{TokenBreach}
 
 -- a text, and for each of its tokens the terminal, the place and the length
 pub record Source : Type 0 where

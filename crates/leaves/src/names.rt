@@ -3,8 +3,8 @@ use parts::byte;
 ghost use mathlib.Core.Path.{_≡_};
 ghost use Prim.Native.Nat.{_+_, _*_, _-_, _≤_, _<_};
 ghost use lib.ListN.{length, getD};
-ghost use Rattle.paper_expressions.specs.Search.{sameb};
-ghost use Rattle.paper_reading.specs.Lexical.{inner};
+ghost use Rattle.paper_expressions.specs.Laws.Search.{sameb};
+ghost use Rattle.paper_tokens.specs.Lexical.{inner};
 ghost use Rattle.parts.specs.Texts.{cells, textAt};
 ghost use Rattle.leaves.specs.Names.{name-bytes, name-lengths, name-codes, name-at, code-from};
 

@@ -8,11 +8,11 @@ use mathlib.Core.List.{List, [], _∷_}
 use borrow.Author.Tests.{eqb-true, eqb-false, eq-eqb}
 use lib.Dec.{eqb}
 use lib.ListN.{length, getD}
-use Rattle.paper_reading.specs.FormsLaws.{contra, two}
-use Rattle.paper_reading.specs.Tokens.{‘integer’, ‘float’, ‘double-quoted-string’}
-use Rattle.paper_reading.specs.Lexical
+use Rattle.paper_expressions.specs.Laws.Tests.{contra, two}
+use Rattle.paper_tokens.specs.Tokens.{‘integer’, ‘float’, ‘double-quoted-string’}
+use Rattle.paper_tokens.specs.Lexical
 use Lexical.{Rule, reserved-word, atom, integer, float, double-quoted-string, white-space, comment, order, Reserved, Skipped, skips-white-space, skips-comment, part, token, inner, Longest, HasExponent}
-use Rattle.paper_reading.specs.Terminals.{Terminal, a-reserved-word, an-integer, a-float, a-string}
+use Rattle.paper_tokens.specs.Terminals.{Terminal, a-reserved-word, an-integer, a-float, a-string}
 use Rattle.words.specs.Entries.{Found}
 use Rattle.words.proofs.Table.{part-length}
 use Rattle.matches.specs.Machine.{starts, delta, nextOf, accOf, plainOf, run, Takes}

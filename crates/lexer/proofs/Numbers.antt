@@ -10,9 +10,9 @@ use borrow.Author.Tests.{eq-eqb, ne-eqb, eqb-true, eqb-false}
 use lib.Dec.{eqb, ltb}
 use lib.ListN.{length, take, drop, getD, length-drop}
 use lib.Seq.{drop-cons, take-nil, drop-drop}
-use Rattle.paper_reading.specs.Kinds.{kindOf, digit}
-use Rattle.paper_reading.specs.FormsLaws.{contra, two}
-use Rattle.paper_reading.specs.Lexical.{part}
+use Rattle.paper_expressions.specs.Laws.Tests.{contra, two}
+use Rattle.paper_tokens.specs.Kinds.{kindOf, digit}
+use Rattle.paper_tokens.specs.Lexical.{part}
 use Rattle.matches.specs.Kinds.{fineOf, coarse}
 use Rattle.matches.specs.KindsLaws.{finer}
 use Rattle.words.proofs.Table.{part-at}

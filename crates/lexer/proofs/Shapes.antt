@@ -9,13 +9,13 @@ use borrow.Author.Tests.{eqb-true, eqb-false, eq-eqb, ne-eqb, le-leb, lt-leb, lt
 use lib.Dec.{T, eqb, leb, ltb, eqb→eq}
 use lib.ListN.{length, take, drop, getD}
 use lib.Seq.{take-take}
+use Rattle.paper_expressions.specs.Laws.Tests.{contra, two, or-cases}
 use Rattle.paper_expressions.specs.Bytes.{bytes}
-use Rattle.paper_reading.specs.Kinds.{kindOf}
-use Rattle.paper_reading.specs.FormsLaws.{contra, two, or-cases}
-use Rattle.paper_reading.specs.Words.{reserved, yes-or-no, data-types}
-use Rattle.paper_reading.specs.Lexical
+use Rattle.paper_tokens.specs.Kinds.{kindOf}
+use Rattle.paper_tokens.specs.Words.{reserved, yes-or-no, data-types}
+use Rattle.paper_tokens.specs.Lexical
 use Lexical.{Rule, atom, Reserved, part, token, inner}
-use Rattle.paper_reading.specs.Terminals.{Terminal, yes-no, a-data-type, another-atom, OneOf}
+use Rattle.paper_tokens.specs.Terminals.{Terminal, yes-no, a-data-type, another-atom, OneOf}
 use Rattle.words.specs.Entries.{strings, Found}
 use Rattle.words.specs.EntriesLaws.{one-place, is-reserved, reserved-is, is-yes-no, is-type, yes-no-is, type-is}
 use Rattle.words.proofs.Table.{part-length, strings-length}

@@ -5,10 +5,10 @@ use mathlib.Core.Bool.{Bool, true, false, cond, _&&_, _||_}
 use mathlib.Core.List.{List, [], _∷_}
 use lib.Dec.{eqb, leb, ltb}
 use lib.ListN.{length, getD}
-use Rattle.paper_reading.specs.Tokens.{‘other-atom’, ‘yes-or-no’, ‘data-type’}
-use Rattle.paper_reading.specs.Lexical
+use Rattle.paper_tokens.specs.Tokens.{‘other-atom’, ‘yes-or-no’, ‘data-type’}
+use Rattle.paper_tokens.specs.Lexical
 use Lexical.{Rule, reserved-word, atom, integer, float, double-quoted-string, white-space, comment, Reserved, part, Fits, Longest, Skipped, token, inner, HasExponent}
-use Rattle.paper_reading.specs.Terminals.{Terminal}
+use Rattle.paper_tokens.specs.Terminals.{Terminal}
 use Rattle.words.specs.Entries.{Found}
 use Rattle.lexer.specs.Numerals.{minusOf, wholeOf, fractionOf}
 use Rattle.lexer.specs.declared.Token.{Token}

@@ -4,7 +4,7 @@ use mathlib.Core.Bool.{Bool, cond}
 use mathlib.Core.List.{List, [], _∷_}
 use lib.Dec.{eqb}
 use lib.ListN.{getD, drop}
-use Rattle.paper_reading.specs.Kinds.{kindOf, digit}
+use Rattle.paper_tokens.specs.Kinds.{kindOf, digit}
 
 -- how many digits stand at the front
 unfoldable pub leading : List ℕ → ℕ

@@ -3,7 +3,7 @@ ghost use mathlib.Core.Path.{_≡_};
 ghost use mathlib.Core.Bool.{Bool, true, false};
 ghost use Prim.Native.Nat.{ℕ, _+_, _-_, _≤_, _<_};
 ghost use lib.ListN.{length, getD};
-ghost use Rattle.paper_reading.specs.Lexical.{part};
+ghost use Rattle.paper_tokens.specs.Lexical.{part};
 ghost use Rattle.matches.specs.Walk.{Settled, Marks};
 ghost use Rattle.lexer.specs.Numerals.{leading};
 ghost use Rattle.lexer.specs.Answer.{atomKind, wordKind, bareOf, quotedOf, numberOf, Worded, Named, AtomIs, Tells, Answer};

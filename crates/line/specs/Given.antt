@@ -8,10 +8,10 @@ use Rattle.paper_expressions.specs.Values as paper
 use Rattle.paper_expressions.specs.Types.{Ty}
 use Rattle.paper_expressions.specs.View.{Apart, Sound}
 use Rattle.paper_expressions.specs.Expressions.{Expr, Exprs, ε, _▸_, HasType}
-use Rattle.paper_expressions.specs.Parentheses.{bare, bares, type-to-bare}
-use Rattle.paper_expressions.specs.WithinLimits as Within
+use Rattle.paper_expressions.specs.Laws.Parentheses.{bare, bares, type-to-bare}
+use Rattle.paper_expressions.specs.Laws.WithinLimits as Within
 use Within.{Limited, Modest, AllModest, atom-modest, integer-modest, float-modest, string-modest, paren-modest, listing-modest, apply-modest, none-modest, more-modest, Held, limited}
-use Rattle.paper_reading.specs.Line.{no-items}
+use Rattle.paper_guideline.specs.Line.{no-items}
 use Rattle.parts.specs.Part.{Table, Ends}
 use Rattle.parts.specs.Part as Part
 use Rattle.parts.specs.Items.{Items}

@@ -7,16 +7,16 @@ use mathlib.Core.List.{List, [], _∷_}
 use Rattle.paper_expressions.specs.Limits.{list-limit}
 use Rattle.paper_expressions.specs.View.{At, at-first, at-later}
 use Rattle.paper_expressions.specs.Expressions.{Expr, Exprs, ε, _▸_}
-use Rattle.paper_expressions.specs.WithinLimits as Within
+use Rattle.paper_expressions.specs.Laws.WithinLimits as Within
 use Within.{Modest, AllModest, atom-modest, integer-modest, float-modest, string-modest, paren-modest, listing-modest, apply-modest, none-modest, more-modest}
-use Rattle.paper_reading.specs.Lexical.{Token}
-use Rattle.paper_reading.specs.Tree
+use Rattle.paper_tokens.specs.Lexical.{Token}
+use Rattle.paper_guideline.specs.Tree
 use Tree.{Where, Tree, infix-operator, looser, unary-minus, an-atom, an-integer, a-float, a-string, parentheses, a-list, a-call, empty, nonempty, last, then-more}
-use Rattle.paper_reading.specs.TreeLaws.{Each, all, _&_}
-use Rattle.paper_reading.specs.Limits.{larger, count, longest-list, longest-lists}
-use Rattle.paper_reading.specs.Refusals.{TokenBreach, long-name, long-text, large-integer, large-real}
+use Rattle.paper_guideline.specs.Laws.TreeLaws.{Each, all, _&_}
+use Rattle.paper_guideline.specs.Limits.{larger, count, longest-list, longest-lists}
+use Rattle.paper_guideline.specs.Refusals.{TokenBreach, long-name, long-text, large-integer, large-real}
 use Rattle.measure.specs.Larger.{first-larger, second-larger}
-use Rattle.paper_reading.specs.RefusalLaws.{le-or-gt}
+use Rattle.paper_guideline.specs.Laws.RefusalLaws.{le-or-gt}
 
 -- ---- the larger of two numbers
 

@@ -3,7 +3,7 @@ use Prim.Native.Nat.{ℕ, _≤_, _<_}
 use mathlib.Core.Path.{_≡_}
 use mathlib.Core.List.{List}
 use lib.ListN.{length}
-use Rattle.paper_reading.specs.Line.{LineAnswer, LineAnswers, answer-written}
+use Rattle.paper_guideline.specs.Line.{LineAnswer, LineAnswers, answer-written}
 use Rattle.tokens.specs.Reply.{filled, blank}
 use Rattle.written.specs.Longest.{answer-limit}
 

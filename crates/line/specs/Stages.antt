@@ -13,24 +13,24 @@ use Rattle.paper_expressions.specs.Clauses.{Clause}
 use Rattle.paper_expressions.specs.View.{At}
 use Rattle.paper_expressions.specs.Expressions.{Expr, HasType}
 use Rattle.paper_expressions.specs.Evaluation.{Evaluates}
-use Rattle.paper_reading.specs.Nonterminals.{⟨expression⟩}
-use Rattle.paper_reading.specs.Guideline.{Sentence-of}
-use Rattle.paper_reading.specs.Lexical.{Token, Tokens}
-use Rattle.paper_reading.specs.LexicalLaws as Lexical
-use Rattle.paper_reading.specs.Terminals.{Terminals}
-use Rattle.paper_reading.specs.TerminalLaws as Terms
-use Rattle.paper_reading.specs.Tree.{anywhere, Tree}
-use Rattle.paper_reading.specs.LeftOut.{LeftOut}
-use Rattle.paper_reading.specs.Limits.{depth-limit, part-limit, token-limit, parts, depth, longest-list}
-use Rattle.paper_reading.specs.Refusals
+use Rattle.paper_grammar.specs.Nonterminals.{⟨expression⟩}
+use Rattle.paper_grammar.specs.Sentence.{Sentence-of}
+use Rattle.paper_tokens.specs.Lexical.{Token, Tokens}
+use Rattle.paper_tokens.specs.Laws.LexicalLaws as Lexical
+use Rattle.paper_tokens.specs.Terminals.{Terminals}
+use Rattle.paper_tokens.specs.Laws.TerminalLaws as Terms
+use Rattle.paper_guideline.specs.Tree.{anywhere, Tree}
+use Rattle.paper_guideline.specs.LeftOut.{LeftOut}
+use Rattle.paper_guideline.specs.Limits.{depth-limit, part-limit, token-limit, parts, depth, longest-list}
+use Rattle.paper_guideline.specs.Refusals
 use Refusals.{Stage, text-stage, lexical-stage, count-stage, grammar-stage, left-out-stage, limit-stage, name-stage, type-stage, turn, TooManyOpen, TokenBreach, Breach}
 use Refusals.{high-byte, long, no-rule, many-tokens, many-open, bad-token, bad-end, uses-left-out, token-breach, too-deep, long-list, many-tasks, many-data-items, many-parts, many-assignments, many-sources, short-table, name-breach, no-type}
-use Rattle.paper_reading.specs.Line
+use Rattle.paper_guideline.specs.Line
 use Line.{no-items, LineTree, LineBreach, refused, gives, LineAnswers, line-refused, line-gives}
 use Line.{line-high-byte, line-long, line-no-rule, line-many-tokens, line-many-open, line-no-expression, line-left-out, line-token, line-deep, line-long-list, line-many-parts, line-no-type}
-use Rattle.paper_reading.specs.LineLaws.{one-line-tree}
+use Rattle.paper_guideline.specs.Laws.LineLaws.{one-line-tree}
 use Rattle.line.specs.Steps.{Before}
-use Rattle.paper_reading.specs.RefusalLaws.{by-turn, by-its-turn, le-or-gt}
+use Rattle.paper_guideline.specs.Laws.RefusalLaws.{by-turn, by-its-turn, le-or-gt}
 
 -- ---- the first three stages, as load tests them
 

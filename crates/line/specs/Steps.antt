@@ -5,14 +5,14 @@ use mathlib.Core.List.{List, []}
 use lib.ListN.{length}
 use Rattle.paper_expressions.specs.Types.{Ty}
 use Rattle.paper_expressions.specs.Expressions.{Expr, HasType}
-use Rattle.paper_expressions.specs.Parentheses.{bare}
-use Rattle.paper_expressions.specs.WithinLimits.{Modest}
-use Rattle.paper_reading.specs.Limits.{depth-limit, part-limit}
-use Rattle.paper_reading.specs.Lexical.{Token, Tokens}
-use Rattle.paper_reading.specs.Terminals.{Terminals}
-use Rattle.paper_reading.specs.Tree.{anywhere, Tree}
-use Rattle.paper_reading.specs.Refusals.{Stage, turn}
-use Rattle.paper_reading.specs.Line.{no-items, LineTree, LineBreach, refused, LineAnswers}
+use Rattle.paper_expressions.specs.Laws.Parentheses.{bare}
+use Rattle.paper_expressions.specs.Laws.WithinLimits.{Modest}
+use Rattle.paper_guideline.specs.Limits.{depth-limit, part-limit}
+use Rattle.paper_tokens.specs.Lexical.{Token, Tokens}
+use Rattle.paper_tokens.specs.Terminals.{Terminals}
+use Rattle.paper_guideline.specs.Tree.{anywhere, Tree}
+use Rattle.paper_guideline.specs.Refusals.{Stage, turn}
+use Rattle.paper_guideline.specs.Line.{no-items, LineTree, LineBreach, refused, LineAnswers}
 use Rattle.tokens.specs.Reply.{blank}
 use Rattle.parts.specs.Part.{Table, size, Ends, Within}
 use Rattle.resolution.specs.Letters.{letter}

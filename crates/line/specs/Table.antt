@@ -7,12 +7,12 @@ use mathlib.Core.Logic.{inr, ⊎-elim}
 use mathlib.Core.List.{List, []}
 use lib.ListN.{length, getD}
 use Rattle.paper_expressions.specs.Expressions.{Expr}
-use Rattle.paper_expressions.specs.Parentheses.{bare}
-use Rattle.paper_reading.specs.Tree.{anywhere}
-use Rattle.paper_reading.specs.Limits.{text-limit, part-limit}
-use Rattle.paper_reading.specs.Refusals.{text-stage}
-use Rattle.paper_reading.specs.RefusalLaws.{le-or-gt}
-use Rattle.paper_reading.specs.Line.{line-long}
+use Rattle.paper_expressions.specs.Laws.Parentheses.{bare}
+use Rattle.paper_guideline.specs.Tree.{anywhere}
+use Rattle.paper_guideline.specs.Limits.{text-limit, part-limit}
+use Rattle.paper_guideline.specs.Refusals.{text-stage}
+use Rattle.paper_guideline.specs.Laws.RefusalLaws.{le-or-gt}
+use Rattle.paper_guideline.specs.Line.{line-long}
 use Rattle.parts.specs.Part.{table, size, Holds}
 use Rattle.leaves.specs.Source.{source, Stand}
 use Rattle.steps.specs.declared.Built.{Built}

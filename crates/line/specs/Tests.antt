@@ -6,16 +6,16 @@ use mathlib.Core.List.{List, []}
 use lib.ListN.{length}
 use Rattle.paper_expressions.specs.Limits.{list-limit}
 use Rattle.paper_expressions.specs.View as View
-use Rattle.paper_reading.specs.Nonterminals.{⟨expression⟩}
-use Rattle.paper_reading.specs.Guideline.{Sentence-of}
-use Rattle.paper_reading.specs.CompleteLaws.{some-expression}
-use Rattle.paper_reading.specs.Lexical.{Token}
-use Rattle.paper_reading.specs.LeftOut.{LeftOut}
-use Rattle.paper_reading.specs.Tree.{anywhere}
-use Rattle.paper_reading.specs.TreeLaws as Tree
-use Rattle.paper_reading.specs.Limits.{token-limit, part-limit, depth-limit, parts, depth, longest-list}
-use Rattle.paper_reading.specs.Refusals.{TokenBreach}
-use Rattle.paper_reading.specs.Line.{refused, LineAnswers}
+use Rattle.paper_grammar.specs.Nonterminals.{⟨expression⟩}
+use Rattle.paper_grammar.specs.Sentence.{Sentence-of}
+use Rattle.paper_guideline.specs.Laws.CompleteLaws.{some-expression}
+use Rattle.paper_tokens.specs.Lexical.{Token}
+use Rattle.paper_guideline.specs.LeftOut.{LeftOut}
+use Rattle.paper_guideline.specs.Tree.{anywhere}
+use Rattle.paper_guideline.specs.Laws.TreeLaws as Tree
+use Rattle.paper_guideline.specs.Limits.{token-limit, part-limit, depth-limit, parts, depth, longest-list}
+use Rattle.paper_guideline.specs.Refusals.{TokenBreach}
+use Rattle.paper_guideline.specs.Line.{refused, LineAnswers}
 use Rattle.grammar.specs.declared.Start.the-variants.{Expression}
 use Rattle.grammar.specs.declared.Answer as Grammar
 use Rattle.grammar.specs.Reply.{Reply}

@@ -11,6 +11,7 @@ use lib.Dec.{eqb, leb}
 use lib.IntN.{natAbs}
 use lib.ListN.{length}
 use borrow.Author.Tests.{leb-true, leb-false, eq-eqb}
+use Rattle.paper_expressions.specs.Laws.Tests.{contra, two, and-l, and-r, every, every-at}
 use Rattle.paper_expressions.specs.Bytes.{bytes}
 use Rattle.paper_expressions.specs.Limits.{integer-limit, real-limit, list-limit}
 use Rattle.paper_expressions.specs.Limits as Values
@@ -18,32 +19,31 @@ use Rattle.paper_expressions.specs.Types.{Ty}
 use Rattle.paper_expressions.specs.Clauses.{Clause}
 use Rattle.paper_expressions.specs.View.{At, at-first, at-later}
 use Rattle.paper_expressions.specs.Expressions.{Expr, HasType}
-use Rattle.paper_expressions.specs.Search.{no-clash}
-use Rattle.paper_expressions.specs.Typing.{typeF, type-has, type-only}
-use Rattle.paper_expressions.specs.Only.{Answer}
-use Rattle.paper_expressions.specs.Only as Only
-use Rattle.paper_expressions.specs.Promise.{evalF, evaluates-if}
-use Rattle.paper_reading.specs.FormsLaws.{contra, two, matchF, match-law}
-use Rattle.paper_reading.specs.LlLaws.{and-l, and-r, every, every-at}
-use Rattle.paper_reading.specs.Ll.{Out, accept, refuse, run, N}
-use Rattle.paper_reading.specs.Form.{G, ‹Expr›}
-use Rattle.paper_reading.specs.Same.{at-expression, accepts-sentence, sentence-accepted}
-use Rattle.paper_reading.specs.Tokens.{“open”, “[”}
-use Rattle.paper_reading.specs.Lexical
+use Rattle.paper_expressions.specs.Laws.Search.{no-clash}
+use Rattle.paper_expressions.specs.Laws.Typing.{typeF, type-has, type-only}
+use Rattle.paper_expressions.specs.Laws.Only.{Answer}
+use Rattle.paper_expressions.specs.Laws.Only as Only
+use Rattle.paper_expressions.specs.Laws.Promise.{evalF, evaluates-if}
+use Rattle.paper_tokens.specs.Laws.FormsLaws.{matchF, match-law}
+use Rattle.paper_grammar.specs.Laws.Ll.{Out, accept, refuse, run, N}
+use Rattle.paper_grammar.specs.Laws.Form.{G, ‹Expr›}
+use Rattle.paper_grammar.specs.Laws.Same.{at-expression, accepts-sentence, sentence-accepted}
+use Rattle.paper_tokens.specs.Tokens.{“open”, “[”}
+use Rattle.paper_tokens.specs.Lexical
 use Lexical.{Rule, reserved-word, atom, integer, float, double-quoted-string, white-space, comment, plain-float, inner, Longest, Token, Tokens, at-end, skip, take-token, Comes, starts, goes-on, Stuck}
-use Rattle.paper_reading.specs.LexicalLaws.{one-length, one-list}
-use Rattle.paper_reading.specs.LexicalTwin.{same, same-self, Lexed, tokens, stuck, lexF, Is, lexed}
-use Rattle.paper_reading.specs.Literals.{whole, thousandths, behind-point}
-use Rattle.paper_reading.specs.Terminals.{name}
-use Rattle.paper_reading.specs.TerminalLaws.{terminalF, terminal-is, have-terminals}
-use Rattle.paper_reading.specs.LeftOut.{left-out-words, left-out-functors, LeftOut, left-out-word, left-out-functor, left-out-exponent, further-on}
-use Rattle.paper_reading.specs.CompleteLaws.{some-expression}
-use Rattle.paper_reading.specs.Tree.{anywhere, Tree}
-use Rattle.paper_reading.specs.TreeLaws.{treeF, tree-read}
-use Rattle.paper_reading.specs.Limits.{text-limit, token-limit, bracket-limit, decimal-limit, part-limit, depth-limit, parts, depth, longest-list}
-use Rattle.paper_reading.specs.Refusals
+use Rattle.paper_tokens.specs.Laws.LexicalLaws.{one-length, one-list}
+use Rattle.paper_tokens.specs.Laws.LexicalTwin.{same, same-self, Lexed, tokens, stuck, lexF, Is, lexed}
+use Rattle.paper_tokens.specs.Literals.{whole, thousandths, behind-point}
+use Rattle.paper_tokens.specs.Terminals.{name}
+use Rattle.paper_tokens.specs.Laws.TerminalLaws.{terminalF, terminal-is, have-terminals}
+use Rattle.paper_guideline.specs.LeftOut.{left-out-words, left-out-functors, LeftOut, left-out-word, left-out-functor, left-out-exponent, further-on}
+use Rattle.paper_guideline.specs.Laws.CompleteLaws.{some-expression}
+use Rattle.paper_guideline.specs.Tree.{anywhere, Tree}
+use Rattle.paper_guideline.specs.Laws.TreeLaws.{treeF, tree-read}
+use Rattle.paper_guideline.specs.Limits.{text-limit, token-limit, bracket-limit, decimal-limit, part-limit, depth-limit, parts, depth, longest-list}
+use Rattle.paper_guideline.specs.Refusals
 use Refusals.{text-stage, lexical-stage, count-stage, Opening, opens-round, opens-square, TooManyOpen, one-too-many, one-more-open, one-fewer-open, as-many-open, TokenBreach, long-name, long-text, large-integer, large-real, long-fraction}
-use Rattle.paper_reading.specs.Line
+use Rattle.paper_guideline.specs.Line
 use Line.{no-items, LineTree, LineBreach, line-high-byte, line-long, line-no-rule, line-many-tokens, line-many-open, LineAnswer, refused, gives, LineAnswers}
 use Rattle.line.specs.Steps.{Before}
 use Rattle.line.specs.Stages.{after, no-sentence, sentence, nothing-left-out, over-limit, deep, long-lists, too-many-parts, within-limits, untyped, given}

@@ -4,11 +4,11 @@ use mathlib.Core.Path.{_≡_, refl}
 use mathlib.Core.List.{List}
 use lib.ListN.{length}
 use borrow.Author.Tests.{eq-eqb}
-use Rattle.paper_expressions.specs.Search.{no-clash}
+use Rattle.paper_expressions.specs.Laws.Search.{no-clash}
 use Rattle.paper_expressions.specs.Types.{Ty}
 use Rattle.paper_expressions.specs.Expressions.{HasType}
-use Rattle.paper_reading.specs.Limits.{depth-limit}
-use Rattle.paper_reading.specs.Line.{no-items, refused, answer-written}
+use Rattle.paper_guideline.specs.Limits.{depth-limit}
+use Rattle.paper_guideline.specs.Line.{no-items, refused, answer-written}
 use Rattle.parts.specs.Part.{Table}
 use Rattle.resolution.specs.Letters.{letter, letter-some, Outcome, is, none}
 use Rattle.typer.specs.Typed.{Typed}

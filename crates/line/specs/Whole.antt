@@ -5,10 +5,10 @@ use mathlib.Core.Path.{_≡_, refl, sym, ap, subst, _∙_}
 use mathlib.Core.Logic.{⊎-elim}
 use mathlib.Core.List.{List}
 use lib.ListN.{length, take, length-replicate}
-use Rattle.paper_reading.specs.Limits.{token-limit}
-use Rattle.paper_reading.specs.RefusalLaws.{le-or-gt}
-use Rattle.paper_reading.specs.Line.{LineAnswer, refused, LineAnswers, answer-written}
-use Rattle.paper_reading.specs.LineLaws.{one-line-answer}
+use Rattle.paper_guideline.specs.Limits.{token-limit}
+use Rattle.paper_guideline.specs.Laws.RefusalLaws.{le-or-gt}
+use Rattle.paper_guideline.specs.Line.{LineAnswer, refused, LineAnswers, answer-written}
+use Rattle.paper_guideline.specs.Laws.LineLaws.{one-line-answer}
 use Rattle.tokens.specs.declared.Read.{Read}
 use Rattle.tokens.specs.declared.Read.the-variants.{Tokens, Refused, Short}
 use Rattle.tokens.specs.Reply.{filled, blank, Reads}

@@ -12,17 +12,17 @@ use Rattle.paper_expressions.specs.Values.{Value, unknown, truth, integer, real
 use Rattle.paper_expressions.specs.Types.{Text, Integer, Real, TruthValue}
 use Rattle.paper_expressions.specs.Types.{Ty}
 use Rattle.paper_expressions.specs.Expressions.{Expr}
-use Rattle.paper_expressions.specs.Sheet.{Holds, row, sheet, worked-sheet}
-use Rattle.paper_expressions.specs.Sheet as Sheet
-use Rattle.paper_reading.specs.Kinds.{kindOf}
-use Rattle.paper_reading.specs.FormsLaws.{nul, deriv}
-use Rattle.paper_reading.specs.Words.{reserved, yes-or-no, data-types}
-use Rattle.paper_reading.specs.Form as Form
-use Rattle.paper_reading.specs.Lexical.{bare-atom, quoted-atom, integer-form, plain-float, exponent, float-form, string-form, white-form, comment-form}
-use Rattle.paper_reading.specs.TerminalLaws.{terminalF}
-use Rattle.paper_reading.specs.LeftOut.{left-out-words, left-out-functors}
-use Rattle.paper_reading.specs.TreeLaws.{infixF, treeF}
-use Rattle.paper_reading.specs.Line.{LineTree, LineAnswer, refused, gives, LineAnswers}
+use Rattle.paper_expressions.specs.Laws.Sheet.{Holds, row, sheet, worked-sheet}
+use Rattle.paper_expressions.specs.Laws.Sheet as Sheet
+use Rattle.paper_tokens.specs.Kinds.{kindOf}
+use Rattle.paper_tokens.specs.Laws.FormsLaws.{nul, deriv}
+use Rattle.paper_tokens.specs.Words.{reserved, yes-or-no, data-types}
+use Rattle.paper_grammar.specs.Laws.Form as Form
+use Rattle.paper_tokens.specs.Lexical.{bare-atom, quoted-atom, integer-form, plain-float, exponent, float-form, string-form, white-form, comment-form}
+use Rattle.paper_tokens.specs.Laws.TerminalLaws.{terminalF}
+use Rattle.paper_guideline.specs.LeftOut.{left-out-words, left-out-functors}
+use Rattle.paper_guideline.specs.Laws.TreeLaws.{infixF, treeF}
+use Rattle.paper_guideline.specs.Line.{LineTree, LineAnswer, refused, gives, LineAnswers}
 use Rattle.line.specs.Twin.{lineF, computed, treeOf, tree-computed}
 
 -- ---- the small program

@@ -4,10 +4,10 @@ use native.Mathlib.Omega.{arith}
 use mathlib.Core.Path.{_≡_, refl, ap, _∙_}
 use mathlib.Core.List.{List, _++_}
 use lib.ListN.{length, drop}
-use Rattle.paper_expressions.specs.WithinLimits.{Limited}
+use Rattle.paper_expressions.specs.Laws.WithinLimits.{Limited}
 use Rattle.paper_expressions.specs.Types.{Ty}
 use Rattle.paper_expressions.specs.Values.{Value}
-use Rattle.paper_reading.specs.Line.{LineAnswer, refused, gives, LineAnswers, answer-written}
+use Rattle.paper_guideline.specs.Line.{LineAnswer, refused, gives, LineAnswers, answer-written}
 use Rattle.tokens.specs.Reply.{filled, blank}
 use Rattle.digits.specs.Appends.{placed, Appends}
 use Rattle.written.specs.Longest.{longest-refusal, longest-answer}

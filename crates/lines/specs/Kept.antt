@@ -5,7 +5,7 @@ use mathlib.Core.Bool.{Bool, true, false, cond}
 use mathlib.Core.List.{List, [], _∷_, _++_}
 use lib.Dec.{eqb}
 use lib.ListN.{length, take, drop}
-use Rattle.paper_reading.specs.Limits.{text-limit}
+use Rattle.paper_guideline.specs.Limits.{text-limit}
 use Rattle.lines.specs.declared.Taken.{Taken}
 
 -- bytes kept of a line: one more than it may have, so that a longer line is still seen to be too long

@@ -5,7 +5,7 @@ use mathlib.Core.Bool.{Bool, true, false}
 use mathlib.Core.List.{List, [], _∷_, _++_}
 use lib.ListN.{length, take}
 use Rattle.paper_expressions.specs.Bytes.{bytes}
-use Rattle.paper_reading.specs.Line.{LineAnswer, LineAnswers, digits-of, answer-written}
+use Rattle.paper_guideline.specs.Line.{LineAnswer, LineAnswers, digits-of, answer-written}
 use Rattle.lines.specs.Kept.{Takes}
 use Rattle.lines.specs.declared.Taken.{Taken}
 

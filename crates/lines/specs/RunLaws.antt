@@ -8,11 +8,11 @@ use mathlib.Core.List.{List, [], _∷_, _++_, append-assoc, append-nil}
 use lib.Dec.{eqb}
 use lib.ListN.{length, take, drop, length-take, length-drop, drop-of-length-le}
 use lib.Seq.{take-all, drop-drop, drop-length}
-use Rattle.paper_reading.specs.Limits.{text-limit}
-use Rattle.paper_reading.specs.Refusals.{text-stage, number}
-use Rattle.paper_reading.specs.RefusalLaws.{le-or-gt}
-use Rattle.paper_reading.specs.Line.{line-long, LineAnswer, refused, LineAnswers, line-refused, digits-of, answer-written, lines-from, Writes, no-more-lines, next-line, Output, output}
-use Rattle.paper_reading.specs.LineLaws.{one-line-answer}
+use Rattle.paper_guideline.specs.Limits.{text-limit}
+use Rattle.paper_guideline.specs.Refusals.{text-stage, number}
+use Rattle.paper_guideline.specs.Laws.RefusalLaws.{le-or-gt}
+use Rattle.paper_guideline.specs.Line.{line-long, LineAnswer, refused, LineAnswers, line-refused, digits-of, answer-written, lines-from, Writes, no-more-lines, next-line, Output, output}
+use Rattle.paper_guideline.specs.Laws.LineLaws.{one-line-answer}
 use Rattle.lines.specs.Kept.{kept-limit, Begun, before-newline, has-newline, Takes}
 use Rattle.lines.specs.Run.{header, line-written, joined, Run, line-ends, line-goes-on, next-chunk, last-line, no-last-line}
 use Rattle.lines.specs.declared.Taken.{Taken}

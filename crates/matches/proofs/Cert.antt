@@ -9,12 +9,13 @@ use lib.Dec.{T, ltb, leb, eqb, ltb→lt, leb→le, eqb→eq}
 use lib.ListN.{length, take, getD, List·getD-map}
 use lib.Seq.{getD-append-add, getD-take}
 use borrow.Author.Tests.{lt-leb}
+use Rattle.paper_expressions.specs.Laws.Tests.{Iff}
 use Rattle.paper_expressions.specs.Bytes.{bytes}
-use Rattle.paper_reading.specs.Kinds.{kindOf, letter, power, digit, minus, point, quote, double-quote, backslash, blank, slash, star}
-use Rattle.paper_reading.specs.Forms.{Form, never, _or_, Match}
-use Rattle.paper_reading.specs.FormsLaws.{Iff, nul, deriv, nul-law, deriv-law}
-use Rattle.paper_reading.specs.Lexical.{Rule, reserved-word, atom, integer, float, double-quoted-string, white-space, comment, order, Matches}
-use Rattle.paper_reading.specs.Lexical.{bare-atom, quoted-atom, integer-form, plain-float, exponent, float-form, string-form, white-form, comment-form}
+use Rattle.paper_tokens.specs.Kinds.{kindOf, letter, power, digit, minus, point, quote, double-quote, backslash, blank, slash, star}
+use Rattle.paper_tokens.specs.Forms.{Form, never, _or_, Match}
+use Rattle.paper_tokens.specs.Laws.FormsLaws.{nul, deriv, nul-law, deriv-law}
+use Rattle.paper_tokens.specs.Lexical.{Rule, reserved-word, atom, integer, float, double-quoted-string, white-space, comment, order, Matches}
+use Rattle.paper_tokens.specs.Lexical.{bare-atom, quoted-atom, integer-form, plain-float, exponent, float-form, string-form, white-form, comment-form}
 use Rattle.matches.specs.Kinds.{fineOf, coarse}
 use Rattle.matches.specs.KindsLaws.{fine-small, finer}
 use Rattle.matches.specs.Machine.{delta, accepts, plain-states, nextOf, accOf, plainOf, run}

@@ -8,10 +8,10 @@ use mathlib.Core.List.{List, [], _∷_, _++_, append-assoc}
 use lib.Dec.{T, eqb, leb, eqb→eq}
 use lib.ListN.{length, take, drop, getD, length-append, length-drop}
 use lib.Seq.{length-take-le, getD-append-add, getD-take, getD-drop}
-use Rattle.paper_reading.specs.Kinds.{kindOf, star, slash}
-use Rattle.paper_reading.specs.Forms.{Form, one, _then_, Then, One, Match, isIn}
-use Rattle.paper_reading.specs.FormsLaws.{contra, or-cases}
-use Rattle.paper_reading.specs.Lexical.{comment, comment-form, Matches, part}
+use Rattle.paper_expressions.specs.Laws.Tests.{contra, or-cases}
+use Rattle.paper_tokens.specs.Kinds.{kindOf, star, slash}
+use Rattle.paper_tokens.specs.Forms.{Form, one, _then_, Then, One, Match, isIn}
+use Rattle.paper_tokens.specs.Lexical.{comment, comment-form, Matches, part}
 use Rattle.matches.specs.Machine.{starts, run, accOf, Takes}
 use Rattle.matches.specs.Kinds.{fineOf, coarse}
 use Rattle.matches.specs.KindsLaws.{finer, over-127}

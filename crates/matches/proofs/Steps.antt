@@ -12,8 +12,8 @@ use borrow.Author.Count.{below-more}
 use lib.Dec.{ltb, eqb, ltb→lt, eqb→eq}
 use lib.ListN.{length, take, drop, getD, set, length-drop}
 use lib.Seq.{take-suc, getD-drop, getD-set-same, getD-set-other}
-use Rattle.paper_reading.specs.FormsLaws.{contra, two}
-use Rattle.paper_reading.specs.Lexical.{part}
+use Rattle.paper_expressions.specs.Laws.Tests.{contra, two}
+use Rattle.paper_tokens.specs.Lexical.{part}
 use Rattle.matches.specs.Kinds.{fineOf}
 use Rattle.matches.specs.KindsLaws.{fine-small}
 use Rattle.matches.specs.Machine.{starts, accepts, nextOf, accOf, run, Takes}

@@ -7,12 +7,12 @@ use mathlib.Core.Logic.{_⊎_, inl, inr, ⊎-elim}
 use mathlib.Core.List.{List, [], _∷_}
 use lib.Dec.{T, eqb, leb, eqb→eq, leb→le}
 use lib.ListN.{length, getD}
+use Rattle.paper_expressions.specs.Laws.Tests.{contra, or-cases, two}
 use Rattle.paper_expressions.specs.Bytes.{bytes}
-use Rattle.paper_reading.specs.Kinds.{kindOf}
-use Rattle.paper_reading.specs.FormsLaws.{contra, or-cases, two}
-use Rattle.paper_reading.specs.Words.{reserved, yes-or-no, data-types}
-use Rattle.paper_reading.specs.Lexical.{reserved-word, Reserved, Matches}
-use Rattle.paper_reading.specs.LexicalTwin.{ruleF, rule-law}
+use Rattle.paper_tokens.specs.Kinds.{kindOf}
+use Rattle.paper_tokens.specs.Words.{reserved, yes-or-no, data-types}
+use Rattle.paper_tokens.specs.Lexical.{reserved-word, Reserved, Matches}
+use Rattle.paper_tokens.specs.Laws.LexicalTwin.{ruleF, rule-law}
 use Rattle.words.specs.Entries.{strings}
 use Rattle.words.specs.EntriesLaws.{reserved-is}
 use Rattle.words.proofs.Table.{strings-length}

@@ -7,7 +7,7 @@ use mathlib.Core.List.{List, [], _∷_, _++_}
 use lib.Dec.{eqb}
 use lib.ListN.{getD, length}
 use Rattle.paper_expressions.specs.Bytes.{bytes}
-use Rattle.paper_reading.specs.Lexical.{part}
+use Rattle.paper_tokens.specs.Lexical.{part}
 use Rattle.matches.specs.Kinds.{fineOf}
 
 -- the state after a byte of a kind: 20 kinds for each of 35 states, each state written as its number counted from 48

@@ -6,7 +6,7 @@ use mathlib.Core.Logic.{_⊎_}
 use mathlib.Core.List.{List, [], _∷_}
 use lib.Dec.{ltb}
 use lib.ListN.{length, getD}
-use Rattle.paper_reading.specs.Lexical.{part}
+use Rattle.paper_tokens.specs.Lexical.{part}
 use Rattle.matches.specs.Machine.{accOf, run, starts, Takes}
 use Rattle.matches.specs.declared.Best.{Best}
 

@@ -10,16 +10,16 @@ use lib.Dec.{eqb}
 use lib.ListN.{length, getD, set}
 use lib.Seq.{getD-set-same, getD-set-other}
 use borrow.Author.Tests.{eqb-true, eqb-false, ne-eqb}
+use Rattle.paper_expressions.specs.Laws.Tests.{two}
 use Rattle.paper_expressions.specs.Operators.{Op}
 use Rattle.paper_expressions.specs.Expressions.{Expr, Apply, ε, _▸_}
-use Rattle.paper_reading.specs.Limits.{larger, parts, depth, longest-list}
-use Rattle.paper_reading.specs.Lexical.{Token}
-use Rattle.paper_reading.specs.Terminals.{Terminal}
-use Rattle.paper_reading.specs.Tree
+use Rattle.paper_guideline.specs.Limits.{larger, parts, depth, longest-list}
+use Rattle.paper_tokens.specs.Lexical.{Token}
+use Rattle.paper_tokens.specs.Terminals.{Terminal}
+use Rattle.paper_guideline.specs.Tree
 use Tree.{infixes, Where, Tree, infix-operator, looser, unary-minus, an-atom, an-integer, a-float, a-string, parentheses, a-list, a-call}
-use Rattle.paper_reading.specs.LlLaws.{two}
-use Rattle.paper_reading.specs.TerminalLaws.{terminal-is}
-use Rattle.paper_reading.specs.TreeLaws.{Ends}
+use Rattle.paper_tokens.specs.Laws.TerminalLaws.{terminal-is}
+use Rattle.paper_guideline.specs.Laws.TreeLaws.{Ends}
 use Rattle.steps.specs.Levels.{levelIn, kindOf, infix-is, infix-no-bracket, list-ends, list-no-call}
 use Rattle.steps.specs.AroundLaws.{joined-level}
 use Rattle.measure.specs.Larger.{larger-none, larger-assoc, first-larger, second-larger}

@@ -4,12 +4,12 @@ use mathlib.Core.Path.{_≡_, refl, sym, ap, subst, _∙_}
 use mathlib.Core.List.{List}
 use native.Mathlib.Omega.{arith}
 use Rattle.paper_expressions.specs.Expressions.{Expr, Exprs, Atom, IntegerLit, FloatLit, StringLit, Paren, Listing, Apply, ε, _▸_}
-use Rattle.paper_expressions.specs.Parentheses.{bare, bares}
-use Rattle.paper_reading.specs.Limits.{bracket-limit, parts, parts-of, depth, deepest}
-use Rattle.paper_reading.specs.Lexical.{Token}
-use Rattle.paper_reading.specs.Tree.{Where, Tree}
-use Rattle.paper_reading.specs.TreeLaws.{Ends}
-use Rattle.paper_reading.specs.Refusals.{TooManyOpen}
+use Rattle.paper_expressions.specs.Laws.Parentheses.{bare, bares}
+use Rattle.paper_guideline.specs.Limits.{bracket-limit, parts, parts-of, depth, deepest}
+use Rattle.paper_tokens.specs.Lexical.{Token}
+use Rattle.paper_guideline.specs.Tree.{Where, Tree}
+use Rattle.paper_guideline.specs.Laws.TreeLaws.{Ends}
+use Rattle.paper_guideline.specs.Refusals.{TooManyOpen}
 use Rattle.parts.specs.Part.{size, sizes, Within, Withins}
 use Rattle.leaves.specs.Source.{Source, Stand}
 use Rattle.steps.specs.Levels.{stand-length}

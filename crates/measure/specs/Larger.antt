@@ -8,11 +8,11 @@ use native.Mathlib.Omega.{arith}
 use lib.Dec.{leb}
 use lib.ListN.{length}
 use borrow.Author.Tests.{leb-true, leb-false, le-leb, lt-leb}
+use Rattle.paper_expressions.specs.Laws.Tests.{two}
 use Rattle.paper_expressions.specs.Expressions.{Expr, Exprs}
-use Rattle.paper_reading.specs.Limits.{larger, depth, deepest, parts, longest-list}
-use Rattle.paper_reading.specs.Lexical.{Token}
-use Rattle.paper_reading.specs.LlLaws.{two}
-use Rattle.paper_reading.specs.Tree
+use Rattle.paper_guideline.specs.Limits.{larger, depth, deepest, parts, longest-list}
+use Rattle.paper_tokens.specs.Lexical.{Token}
+use Rattle.paper_guideline.specs.Tree
 use Tree.{Where, Tree, infix-operator, looser, unary-minus, an-atom, an-integer, a-float, a-string, parentheses, a-list, a-call, Trees, empty, nonempty, SomeTrees, last, then-more}
 use Rattle.steps.specs.Made.{minuses}
 

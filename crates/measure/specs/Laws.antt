@@ -8,16 +8,16 @@ use native.Mathlib.Omega.{arith}
 use lib.Dec.{eqb, leb}
 use lib.ListN.{length}
 use borrow.Author.Tests.{leb-true, leb-false}
-use Rattle.paper_expressions.specs.Functors.{functorF}
+use Rattle.paper_expressions.specs.Laws.Tests.{two, contra}
+use Rattle.paper_expressions.specs.Laws.Functors.{functorF}
 use Rattle.paper_expressions.specs.Expressions.{Expr, Exprs, Listing, Apply, ε}
-use Rattle.paper_reading.specs.Limits.{bracket-limit, larger, depth, count, deepest}
-use Rattle.paper_reading.specs.Lexical.{Token}
-use Rattle.paper_reading.specs.Terminals.{Terminal, name}
-use Rattle.paper_reading.specs.Terminals
-use Rattle.paper_reading.specs.Tree.{Where, anywhere, Tree}
-use Rattle.paper_reading.specs.Refusals.{TooManyOpen, one-too-many, one-more-open, one-fewer-open, Opening, opens-round, opens-square, Closing, closes-round, closes-square}
-use Rattle.paper_reading.specs.LlLaws.{two, contra}
-use Rattle.paper_reading.specs.TerminalLaws.{terminalF, terminal-is, atom-kind}
+use Rattle.paper_guideline.specs.Limits.{bracket-limit, larger, depth, count, deepest}
+use Rattle.paper_tokens.specs.Lexical.{Token}
+use Rattle.paper_tokens.specs.Terminals.{Terminal, name}
+use Rattle.paper_tokens.specs.Terminals
+use Rattle.paper_guideline.specs.Tree.{Where, anywhere, Tree}
+use Rattle.paper_guideline.specs.Refusals.{TooManyOpen, one-too-many, one-more-open, one-fewer-open, Opening, opens-round, opens-square, Closing, closes-round, closes-square}
+use Rattle.paper_tokens.specs.Laws.TerminalLaws.{terminalF, terminal-is, atom-kind}
 use Rattle.leaves.specs.Source.{Source, Stand}
 use Rattle.leaves.specs.Leaf.{Leaf, atom-range}
 use Rattle.leaves.specs.Leaf as L

@@ -8,15 +8,15 @@ use native.Mathlib.Omega.{arith}
 use lib.Dec.{leb, ltb}
 use lib.ListN.{length, getD, set}
 use borrow.Author.Tests.{leb-true, leb-false, ltb-true}
+use Rattle.paper_expressions.specs.Laws.Tests.{two}
 use Rattle.paper_expressions.specs.Expressions.{Expr, Exprs, ε, _▸_}
-use Rattle.paper_reading.specs.Limits.{larger, parts, depth, deepest, longest-list, longest-lists}
-use Rattle.paper_reading.specs.Lexical.{Token}
-use Rattle.paper_reading.specs.Terminals.{Terminal}
-use Rattle.paper_reading.specs.Tree.{Where, anywhere, assigned, Tree, Trees, empty, nonempty, SomeTrees}
-use Rattle.paper_reading.specs.Refusals.{TooManyOpen}
-use Rattle.paper_reading.specs.LlLaws.{two}
-use Rattle.paper_reading.specs.TerminalLaws.{terminal-is}
-use Rattle.paper_reading.specs.TreeLaws.{Ends}
+use Rattle.paper_guideline.specs.Limits.{larger, parts, depth, deepest, longest-list, longest-lists}
+use Rattle.paper_tokens.specs.Lexical.{Token}
+use Rattle.paper_tokens.specs.Terminals.{Terminal}
+use Rattle.paper_guideline.specs.Tree.{Where, anywhere, assigned, Tree, Trees, empty, nonempty, SomeTrees}
+use Rattle.paper_guideline.specs.Refusals.{TooManyOpen}
+use Rattle.paper_tokens.specs.Laws.TerminalLaws.{terminal-is}
+use Rattle.paper_guideline.specs.Laws.TreeLaws.{Ends}
 use Rattle.leaves.specs.Source.{Source, Stand}
 use Rattle.steps.specs.Levels.{levelIn, kindAt, kindOf, stand-kind, stand-length, infix-no-bracket}
 use Rattle.steps.specs.Views.{tree-first, After, at-close, at-comma, element, comma-ends, round-ends, square-ends}

@@ -7,12 +7,12 @@ use lib.Dec.{eqb}
 use lib.ListN.{length, getD}
 use Rattle.paper_expressions.specs.Operators.{Op}
 use Rattle.paper_expressions.specs.Expressions.{Expr, Exprs, Listing, Apply, ε, _▸_}
-use Rattle.paper_reading.specs.Limits.{bracket-limit, larger, parts, parts-of, depth, deepest, count, longest-list, longest-lists}
-use Rattle.paper_reading.specs.Lexical.{Token}
-use Rattle.paper_reading.specs.Terminals.{Terminal}
-use Rattle.paper_reading.specs.Tree.{infixes, Where, MayStand, Tree, Trees}
-use Rattle.paper_reading.specs.TreeLaws.{Ends}
-use Rattle.paper_reading.specs.Refusals.{TooManyOpen}
+use Rattle.paper_guideline.specs.Limits.{bracket-limit, larger, parts, parts-of, depth, deepest, count, longest-list, longest-lists}
+use Rattle.paper_tokens.specs.Lexical.{Token}
+use Rattle.paper_tokens.specs.Terminals.{Terminal}
+use Rattle.paper_guideline.specs.Tree.{infixes, Where, MayStand, Tree, Trees}
+use Rattle.paper_guideline.specs.Laws.TreeLaws.{Ends}
+use Rattle.paper_guideline.specs.Refusals.{TooManyOpen}
 use Rattle.leaves.specs.Source.{Source, source, Stand}
 use Rattle.leaves.specs.Leaf.{Leaf}
 use Rattle.steps.specs.Levels.{levelIn, kindAt, kindOf}

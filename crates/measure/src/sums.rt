@@ -5,7 +5,7 @@ ghost use mathlib.Core.Path.{_≡_};
 ghost use mathlib.Core.Bool.{true, false};
 ghost use lib.ListN.{length};
 ghost use Prim.Native.Nat.{_+_, _≤_, _<_};
-ghost use Rattle.paper_reading.specs.Limits.{larger as largerOf};
+ghost use Rattle.paper_guideline.specs.Limits.{larger as largerOf};
 ghost use Rattle.measure.specs.Made.{Rounds, Also, Closes, Reduces};
 
 pub struct Reduced {

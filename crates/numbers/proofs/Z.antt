@@ -10,7 +10,7 @@ use lib.Dec.{T, ltb, leb, eqb}
 use borrow.Author.Tests.{ltb-true, ltb-false, le-leb, lt-leb, ne-eqb, eqb-false}
 use mir.Syntax.{w32, w64}
 use mir.Val.{SFits, ofZ}
-use Rattle.paper_expressions.specs.Only.{zeroZ}
+use Rattle.paper_expressions.specs.Laws.Only.{zeroZ}
 
 no-way : {A : Type 0} → false ≡ true → A
 no-way e = absurd (subst T (sym e) tt)

@@ -6,15 +6,15 @@ use mathlib.Core.Logic.{⊎-elim}
 use mathlib.Core.List.{List, _∷_}
 use lib.Dec.{eqb}
 use borrow.Author.Tests.{eqb-true, eq-eqb}
+use Rattle.paper_expressions.specs.Laws.Tests.{two, contra}
 use Rattle.paper_expressions.specs.Expressions.{Expr}
-use Rattle.paper_reading.specs.Tokens.{“open”, “close”, “[”, “]”}
-use Rattle.paper_reading.specs.Lexical.{Token}
-use Rattle.paper_reading.specs.Terminals.{Terminal}
-use Rattle.paper_reading.specs.Tree
+use Rattle.paper_tokens.specs.Tokens.{“open”, “close”, “[”, “]”}
+use Rattle.paper_tokens.specs.Lexical.{Token}
+use Rattle.paper_tokens.specs.Terminals.{Terminal}
+use Rattle.paper_guideline.specs.Tree
 use Tree.{Where, Tree, infix-operator, looser, unary-minus, an-atom, an-integer, a-float, a-string, parentheses, a-list, a-call, empty, nonempty, last, then-more}
-use Rattle.paper_reading.specs.Refusals.{one-more-open, one-fewer-open, as-many-open, Opening, opens-round, opens-square, Closing, closes-round, closes-square}
-use Rattle.paper_reading.specs.LlLaws.{two, contra}
-use Rattle.paper_reading.specs.TerminalLaws.{one-terminal}
+use Rattle.paper_guideline.specs.Refusals.{one-more-open, one-fewer-open, as-many-open, Opening, opens-round, opens-square, Closing, closes-round, closes-square}
+use Rattle.paper_tokens.specs.Laws.TerminalLaws.{one-terminal}
 use Rattle.leaves.specs.Source.{Source, Stand, at-token}
 use Rattle.outline.specs.Rows.{Row}
 use Rattle.outline.specs.Flat

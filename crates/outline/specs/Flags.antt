@@ -9,9 +9,9 @@ use lib.Dec.{eqb}
 use lib.ListN.{length, getD}
 use Rattle.paper_expressions.specs.Bytes.{bytes}
 use Rattle.paper_expressions.specs.Types.{Declared, a-text, an-integer, a-boolean, a-datetime, a-date, a-time, a-real, a-setof-text, a-setof-integer, a-setof-real}
-use Rattle.paper_reading.specs.Lexical.{Token, part, inner}
-use Rattle.paper_reading.specs.Terminals.{name}
-use Rattle.paper_reading.specs.Structure.{written, YesOrNo, is-yes, is-no, DataType, data-type}
+use Rattle.paper_tokens.specs.Lexical.{Token, part, inner}
+use Rattle.paper_tokens.specs.Terminals.{name}
+use Rattle.paper_guideline.specs.Structure.{written, YesOrNo, is-yes, is-no, DataType, data-type}
 use Rattle.parts.specs.Codes.{declared-code}
 use Rattle.parts.specs.Texts.{cells}
 use Rattle.leaves.specs.declared.names.Span.{Span}

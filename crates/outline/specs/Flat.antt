@@ -6,15 +6,15 @@ use mathlib.Core.List.{List, [], _∷_, _++_}
 use lib.Dec.{eqb}
 use Rattle.paper_expressions.specs.Types.{Declared}
 use Rattle.paper_expressions.specs.Expressions.{Expr}
-use Rattle.paper_reading.specs.Tokens
+use Rattle.paper_tokens.specs.Tokens
 use Tokens.{“plan”, “action”, “enquiry”, “data”, “semicolon”, “open”, “close”, “and”}
 use Tokens.{“caption”, “description”, “precondition”, “wait-condition”, “postcondition”, “trigger”, “terminate”, “component”, “source”, “schedule-constraint”, “terminal”, “mandatory”}
-use Rattle.paper_reading.specs.Ll.{isIn}
-use Rattle.paper_reading.specs.Lexical.{Token, atom}
-use Rattle.paper_reading.specs.Terminals.{Terminal}
-use Rattle.paper_reading.specs.Tree.{anywhere, assigned, Tree}
-use Rattle.paper_reading.specs.TreeLaws.{Ends}
-use Rattle.paper_reading.specs.Structure.{Class, class-word, YesOrNo, DataType}
+use Rattle.paper_grammar.specs.Laws.Ll.{isIn}
+use Rattle.paper_tokens.specs.Lexical.{Token, atom}
+use Rattle.paper_tokens.specs.Terminals.{Terminal}
+use Rattle.paper_guideline.specs.Tree.{anywhere, assigned, Tree}
+use Rattle.paper_guideline.specs.Laws.TreeLaws.{Ends}
+use Rattle.paper_guideline.specs.Structure.{Class, class-word, YesOrNo, DataType}
 use Rattle.steps.specs.Levels.{kindOf}
 use Rattle.outline.specs.Rows.{named, Row, a-task, a-data-item, with-expression, with-name, with-answer, a-postcondition, an-assignment}
 

@@ -7,19 +7,19 @@ use mathlib.Core.List.{List, [], _∷_, _++_, append-assoc, map}
 use native.Mathlib.Omega.{arith}
 use lib.Dec.{eqb}
 use lib.ListN.{length, length-append}
-use Rattle.paper_reading.specs.Tokens
+use Rattle.paper_tokens.specs.Tokens
 use Tokens.{“semicolon”, “open”, “close”, “and”}
-use Rattle.paper_reading.specs.Lexical.{Token}
-use Rattle.paper_reading.specs.Terminals.{Terminal}
-use Rattle.paper_reading.specs.Tree.{anywhere, assigned}
-use Rattle.paper_reading.specs.Structure
+use Rattle.paper_tokens.specs.Lexical.{Token}
+use Rattle.paper_tokens.specs.Terminals.{Terminal}
+use Rattle.paper_guideline.specs.Tree.{anywhere, assigned}
+use Rattle.paper_guideline.specs.Structure
 use Structure.{Name, Outermost, Placed, Assignment, ComponentAttribute, Generic, SourceAttribute, Attribute, generic, Class, plan, action, enquiry, Task, DataItem, TopLevel}
 use Structure.{Says, says, SaysYesOrNo, says-yes-or-no, SaysName, says-name, Series, none, and-more, Assertion, assignment, both, in-parentheses}
 use Structure.{ComponentAttributeAt, constraint, is-terminal, GenericAt, a-caption, a-description, SourceAttributeAt, a-source-generic, is-mandatory}
 use Structure.{AttributeAt, a-precondition, a-wait-condition, a-postcondition, a-trigger, a-component, a-terminate-condition, a-source, class-word, TaskAt, a-task}
 use Structure.{DataItemAt, a-data-item, TopLevelAt, a-top-task, a-top-data-item, Structure, guideline}
-use Rattle.paper_reading.specs.TerminalLaws.{terminal-is, atom-kind}
-use Rattle.paper_reading.specs.TreeLaws.{infixF, Ends, ends-at, shorter}
+use Rattle.paper_tokens.specs.Laws.TerminalLaws.{terminal-is, atom-kind}
+use Rattle.paper_guideline.specs.Laws.TreeLaws.{infixF, Ends, ends-at, shorter}
 use Rattle.steps.specs.Levels.{kindOf}
 use Rattle.outline.specs.Rows
 use Rows.{named, Row, with-expression, with-name, with-answer, an-assignment, generic-row, component-row, source-row, placed-rows, attribute-rows, attributes-rows, flatten}

@@ -6,8 +6,8 @@ use mathlib.Core.List.{List, [], _∷_, _++_, append-assoc, append-nil}
 use native.Mathlib.Omega.{arith}
 use lib.ListN.{length, getD, length-append}
 use Rattle.paper_expressions.specs.View.{At, at-first, at-later}
-use Rattle.paper_reading.specs.Lexical.{Token}
-use Rattle.paper_reading.specs.Structure.{TopLevel}
+use Rattle.paper_tokens.specs.Lexical.{Token}
+use Rattle.paper_guideline.specs.Structure.{TopLevel}
 use Rattle.leaves.specs.Source.{Source}
 use Rattle.steps.specs.Levels.{kindOf, stand-length}
 use Rattle.outline.specs.declared.Passed.{Passed}

@@ -7,12 +7,12 @@ use mathlib.Core.List.{List, [], _∷_}
 use lib.Dec.{eqb}
 use lib.ListN.{length, getD}
 use Rattle.paper_expressions.specs.View.{At}
-use Rattle.paper_reading.specs.Limits.{text-limit, token-limit}
-use Rattle.paper_reading.specs.Lexical.{Token, atom}
-use Rattle.paper_reading.specs.Tree.{Where, Tree}
-use Rattle.paper_reading.specs.TreeLaws.{Ends}
-use Rattle.paper_reading.specs.Structure.{Name, Outermost, TopLevel, Structure}
-use Rattle.paper_reading.specs.Refusals.{TooManyOpen}
+use Rattle.paper_guideline.specs.Limits.{text-limit, token-limit}
+use Rattle.paper_tokens.specs.Lexical.{Token, atom}
+use Rattle.paper_guideline.specs.Tree.{Where, Tree}
+use Rattle.paper_guideline.specs.Laws.TreeLaws.{Ends}
+use Rattle.paper_guideline.specs.Structure.{Name, Outermost, TopLevel, Structure}
+use Rattle.paper_guideline.specs.Refusals.{TooManyOpen}
 use Rattle.leaves.specs.Source.{Source, Here, Stand}
 use Rattle.steps.specs.Levels.{kindOf}
 use Rattle.outline.specs.declared.Passed.{Passed}

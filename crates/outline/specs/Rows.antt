@@ -7,11 +7,11 @@ use mathlib.Core.Option.{Option, none, some}
 use mathlib.Core.List.{List, [], _∷_, _++_, map}
 use lib.Dec.{eqb}
 use Rattle.paper_expressions.specs.Types.{Declared}
-use Rattle.paper_reading.specs.Tokens.{“data”, “=”, “caption”, “description”, “precondition”, “wait-condition”, “postcondition”, “trigger”, “terminate”, “component”, “source”, “schedule-constraint”, “terminal”, “mandatory”}
-use Rattle.paper_reading.specs.Lexical.{Token}
-use Rattle.paper_reading.specs.Terminals.{name}
-use Rattle.paper_reading.specs.Tree.{Where}
-use Rattle.paper_reading.specs.Structure
+use Rattle.paper_tokens.specs.Tokens.{“data”, “=”, “caption”, “description”, “precondition”, “wait-condition”, “postcondition”, “trigger”, “terminate”, “component”, “source”, “schedule-constraint”, “terminal”, “mandatory”}
+use Rattle.paper_tokens.specs.Lexical.{Token}
+use Rattle.paper_tokens.specs.Terminals.{name}
+use Rattle.paper_guideline.specs.Tree.{Where}
+use Rattle.paper_guideline.specs.Structure
 use Structure.{Name, Outermost, Placed, Assignment, ComponentAttribute, schedule-constraint, terminal, Generic, caption, description, SourceAttribute, source-generic, mandatory}
 use Structure.{Attribute, generic, precondition, wait-condition, terminate, postcondition, trigger, component, source, Class, class-word, TopLevel, task, data-item}
 use Rattle.parts.specs.Codes.{declared-code}

@@ -7,9 +7,9 @@ use native.Mathlib.Omega.{arith}
 use lib.ListN.{length, getD, set, length-set}
 use lib.Seq.{getD-set-same, getD-set-other}
 use borrow.Author.Tests.{lt-ltb}
-use Rattle.paper_reading.specs.Limits.{text-limit, token-limit}
-use Rattle.paper_reading.specs.Tree.{Where}
-use Rattle.paper_reading.specs.Structure.{Name, Outermost}
+use Rattle.paper_guideline.specs.Limits.{text-limit, token-limit}
+use Rattle.paper_guideline.specs.Tree.{Where}
+use Rattle.paper_guideline.specs.Structure.{Name, Outermost}
 use Rattle.leaves.specs.Source.{Source}
 use Rattle.steps.specs.StepLaws.{stand-here}
 use Rattle.outline.specs.declared.Passed.{Passed}

@@ -10,15 +10,15 @@ use native.Mathlib.Omega.{arith}
 use lib.Dec.{eqb, ltb}
 use lib.ListN.{getD, length}
 use borrow.Author.Tests.{eqb-true, eqb-false, ne-eqb, ltb-true}
+use Rattle.paper_expressions.specs.Laws.Tests.{two, and-l, and-r, every}
 use Rattle.paper_expressions.specs.Bytes.{bytes}
-use Rattle.paper_reading.specs.Limits.{text-limit, token-limit}
-use Rattle.paper_reading.specs.Tokens
+use Rattle.paper_guideline.specs.Limits.{text-limit, token-limit}
+use Rattle.paper_tokens.specs.Tokens
 use Tokens.{terminals, “=”, “plan”, “action”, “enquiry”, “data”, “caption”, “description”, “precondition”, “wait-condition”, “postcondition”, “trigger”, “terminate”, “component”, “source”, “schedule-constraint”, “terminal”, “mandatory”}
-use Rattle.paper_reading.specs.Ll.{isIn}
-use Rattle.paper_reading.specs.LlLaws.{two, and-l, and-r, every}
-use Rattle.paper_reading.specs.Lexical.{Token, atom}
-use Rattle.paper_reading.specs.Tree.{Where, anywhere, assigned}
-use Rattle.paper_reading.specs.TerminalLaws.{terminal-is}
+use Rattle.paper_grammar.specs.Laws.Ll.{isIn}
+use Rattle.paper_tokens.specs.Lexical.{Token, atom}
+use Rattle.paper_guideline.specs.Tree.{Where, anywhere, assigned}
+use Rattle.paper_tokens.specs.Laws.TerminalLaws.{terminal-is}
 use Rattle.leaves.specs.Source.{Source, Stand}
 use Rattle.steps.specs.Levels.{kindAt, stand-kind, stand-length}
 use Rattle.steps.specs.StepLaws.{stand-here, stand-next}

@@ -8,7 +8,7 @@ use lib.IntN.{pos}
 use Rattle.paper_expressions.specs.Bytes.{bytes}
 use Rattle.paper_expressions.specs.Types.{an-integer}
 use Rattle.paper_expressions.specs.Expressions.{IntegerLit}
-use Rattle.paper_reading.specs.Structure
+use Rattle.paper_guideline.specs.Structure
 use Structure.{Name, Outermost, Placed, schedule-constraint, terminal, caption, description, source-generic, mandatory}
 use Structure.{generic, precondition, wait-condition, terminate, postcondition, trigger, component, source, plan, action, enquiry, TopLevel, task, data-item}
 use Rattle.outline.specs.Rows.{a-task, a-data-item, with-expression, with-name, with-answer, a-postcondition, an-assignment, flatten, kind-of}

@@ -3,7 +3,7 @@ use Prim.Native.Nat.{ℕ, _+_, _≤_, _<_}
 use mathlib.Core.Path.{_≡_}
 use mathlib.Core.List.{List, [], _++_}
 use lib.ListN.{length, take}
-use Rattle.paper_reading.specs.Line.{LineAnswer, LineAnswers}
+use Rattle.paper_guideline.specs.Line.{LineAnswer, LineAnswers}
 use Rattle.lines.specs.Run.{header, line-written, Run}
 use Rattle.written.specs.Longest.{answer-limit}
 use Rattle.output.specs.declared.State.{State}

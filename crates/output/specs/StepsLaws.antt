@@ -7,7 +7,7 @@ use mathlib.Core.List.{List, [], _∷_, _++_, append-assoc, append-nil}
 use lib.Dec.{ltb}
 use lib.ListN.{length, take, replicate, length-append, length-replicate}
 use lib.Seq.{take-at}
-use Rattle.paper_reading.specs.Line.{LineAnswer, LineAnswers, digits-in, digits-of, answer-written}
+use Rattle.paper_guideline.specs.Line.{LineAnswer, LineAnswers, digits-in, digits-of, answer-written}
 use Rattle.tokens.specs.Reply.{filled}
 use Rattle.digits.specs.Appends.{Appends, append-then, appends-as, read-back}
 use Rattle.lines.specs.Kept.{Takes}

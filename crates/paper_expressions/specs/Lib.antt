@@ -7,16 +7,4 @@ pub mod View
 pub mod Operators
 pub mod Expressions
 pub mod Evaluation
-pub mod Search
-pub mod Resolve
-pub mod Compare
-pub mod Only
-pub mod Finds
-pub mod Typing
-pub mod Functors
-pub mod Promise
-pub mod WithinLimits
-pub mod Minimum
-pub mod Parentheses
-pub mod Soundness
-pub mod Sheet
+pub mod Laws

@@ -12,7 +12,7 @@ use lib.ListN.{getD, length}
 use borrow.Author.Tests.{eq-eqb, ne-eqb}
 use Rattle.paper_expressions.specs.Bytes.{fold, folded, Alike}
 use Rattle.paper_expressions.specs.View.{View, Item, At, at-first, at-later}
-use Rattle.paper_expressions.specs.Search.{alikeb, alike-reflects, true-reflects, reflects-true}
+use Rattle.paper_expressions.specs.Laws.Search.{alikeb, alike-reflects, true-reflects, reflects-true}
 use Rattle.parts.specs.Codes.{declared-code}
 use Rattle.parts.specs.Texts.{cells, textAt}
 

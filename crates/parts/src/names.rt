@@ -5,7 +5,7 @@ use super::number;
 ghost use mathlib.Core.Path.{_≡_};
 ghost use lib.ListN.{getD};
 ghost use Rattle.paper_expressions.specs.Bytes.{fold};
-ghost use Rattle.paper_expressions.specs.Search.{alikeb};
+ghost use Rattle.paper_expressions.specs.Laws.Search.{alikeb};
 ghost use Rattle.parts.specs.Texts.{textAt};
 ghost use Rattle.parts.specs.Items.{Found};
 

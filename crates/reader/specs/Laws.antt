@@ -8,16 +8,16 @@ use native.Mathlib.Omega.{arith}
 use lib.Dec.{eqb, leb}
 use lib.ListN.{length, getD}
 use borrow.Author.Tests.{leb-true, leb-false}
-use Rattle.paper_expressions.specs.Functors.{functorF}
+use Rattle.paper_expressions.specs.Laws.Tests.{two, contra}
+use Rattle.paper_expressions.specs.Laws.Functors.{functorF}
 use Rattle.paper_expressions.specs.Expressions.{Expr, Exprs, Listing, Apply, ε, _▸_}
-use Rattle.paper_expressions.specs.Parentheses.{bare, bares}
-use Rattle.paper_reading.specs.Limits.{text-limit, bracket-limit, part-limit}
-use Rattle.paper_reading.specs.Lexical.{Token, atom, part}
-use Rattle.paper_reading.specs.Terminals.{Terminal, name}
-use Rattle.paper_reading.specs.Tree.{Where, anywhere, Tree, Trees, empty, nonempty}
-use Rattle.paper_reading.specs.Refusals.{TokenBreach, TooManyOpen, one-too-many, one-more-open, one-fewer-open, Opening, opens-round, opens-square, Closing, closes-round, closes-square}
-use Rattle.paper_reading.specs.LlLaws.{two, contra}
-use Rattle.paper_reading.specs.TerminalLaws.{terminalF, terminal-is}
+use Rattle.paper_expressions.specs.Laws.Parentheses.{bare, bares}
+use Rattle.paper_guideline.specs.Limits.{text-limit, bracket-limit, part-limit}
+use Rattle.paper_tokens.specs.Lexical.{Token, atom, part}
+use Rattle.paper_tokens.specs.Terminals.{Terminal, name}
+use Rattle.paper_guideline.specs.Tree.{Where, anywhere, Tree, Trees, empty, nonempty}
+use Rattle.paper_guideline.specs.Refusals.{TokenBreach, TooManyOpen, one-too-many, one-more-open, one-fewer-open, Opening, opens-round, opens-square, Closing, closes-round, closes-square}
+use Rattle.paper_tokens.specs.Laws.TerminalLaws.{terminalF, terminal-is}
 use Rattle.parts.specs.Codes.{code, kind}
 use Rattle.parts.specs.Operands.{size-pos}
 use Rattle.parts.specs.Part.{size, sizes, number-of, operands, Root, Holds, HoldsAll}

@@ -7,17 +7,17 @@ use mathlib.Core.List.{List, _∷_}
 use native.Mathlib.Omega.{arith}
 use lib.Dec.{eqb, leb, ltb}
 use lib.ListN.{length, getD, set}
+use Rattle.paper_expressions.specs.Laws.Tests.{two}
 use Rattle.paper_expressions.specs.Expressions.{Expr, Exprs, ε, _▸_}
-use Rattle.paper_expressions.specs.Parentheses.{bare, bares}
-use Rattle.paper_reading.specs.Limits.{part-limit}
-use Rattle.paper_reading.specs.Lexical.{Token}
-use Rattle.paper_reading.specs.Terminals.{Terminal}
-use Rattle.paper_reading.specs.Tree.{Where, anywhere, assigned, Tree, Trees, empty, nonempty, SomeTrees}
-use Rattle.paper_reading.specs.Refusals.{TooManyOpen}
+use Rattle.paper_expressions.specs.Laws.Parentheses.{bare, bares}
+use Rattle.paper_guideline.specs.Limits.{part-limit}
+use Rattle.paper_tokens.specs.Lexical.{Token}
+use Rattle.paper_tokens.specs.Terminals.{Terminal}
+use Rattle.paper_guideline.specs.Tree.{Where, anywhere, assigned, Tree, Trees, empty, nonempty, SomeTrees}
+use Rattle.paper_guideline.specs.Refusals.{TooManyOpen}
 use borrow.Author.Tests.{leb-true, leb-false, ltb-true}
-use Rattle.paper_reading.specs.LlLaws.{two}
-use Rattle.paper_reading.specs.TerminalLaws.{terminal-is, one-terminal}
-use Rattle.paper_reading.specs.TreeLaws.{Ends}
+use Rattle.paper_tokens.specs.Laws.TerminalLaws.{terminal-is, one-terminal}
+use Rattle.paper_guideline.specs.Laws.TreeLaws.{Ends}
 use Rattle.parts.specs.Part.{size, sizes, number-of, Holds, HoldsAll}
 use Rattle.leaves.specs.Source.{Source, Stand}
 use Rattle.steps.specs.declared.Built.{Built}

@@ -5,11 +5,11 @@ use mathlib.Core.Bool.{Bool, true, false}
 use mathlib.Core.List.{List, _∷_}
 use lib.ListN.{length}
 use Rattle.paper_expressions.specs.Expressions.{Expr, Exprs}
-use Rattle.paper_expressions.specs.Parentheses.{bare, bares}
-use Rattle.paper_reading.specs.Limits.{text-limit, part-limit}
-use Rattle.paper_reading.specs.Lexical.{Token, atom}
-use Rattle.paper_reading.specs.Terminals.{Terminal, name}
-use Rattle.paper_reading.specs.Refusals.{TokenBreach, TooManyOpen}
+use Rattle.paper_expressions.specs.Laws.Parentheses.{bare, bares}
+use Rattle.paper_guideline.specs.Limits.{text-limit, part-limit}
+use Rattle.paper_tokens.specs.Lexical.{Token, atom}
+use Rattle.paper_tokens.specs.Terminals.{Terminal, name}
+use Rattle.paper_guideline.specs.Refusals.{TokenBreach, TooManyOpen}
 use Rattle.parts.specs.Part.{size, sizes, number-of, HoldsAll}
 use Rattle.leaves.specs.declared.Word.{Word}
 use Rattle.leaves.specs.Source.{Source, Here, Stand}

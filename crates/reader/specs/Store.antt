@@ -10,14 +10,14 @@ use lib.Dec.{ltb}
 use lib.ListN.{length, getD, set}
 use lib.Seq.{getD-set-same, getD-set-other}
 use borrow.Author.Tests.{lt-ltb, ltb-true, ltb-false}
+use Rattle.paper_expressions.specs.Laws.Tests.{two}
 use Rattle.paper_expressions.specs.Expressions.{Expr, Exprs, Atom, IntegerLit, FloatLit, StringLit, Paren, Listing, Apply, ε, _▸_}
-use Rattle.paper_expressions.specs.Parentheses.{bare, bares}
-use Rattle.paper_reading.specs.Limits.{text-limit, part-limit}
-use Rattle.paper_reading.specs.Lexical.{Token}
-use Rattle.paper_reading.specs.LlLaws.{two}
-use Rattle.paper_reading.specs.Tree.{Where, Tree}
-use Rattle.paper_reading.specs.TreeLaws.{Ends}
-use Rattle.paper_reading.specs.Refusals.{TooManyOpen}
+use Rattle.paper_expressions.specs.Laws.Parentheses.{bare, bares}
+use Rattle.paper_guideline.specs.Limits.{text-limit, part-limit}
+use Rattle.paper_tokens.specs.Lexical.{Token}
+use Rattle.paper_guideline.specs.Tree.{Where, Tree}
+use Rattle.paper_guideline.specs.Laws.TreeLaws.{Ends}
+use Rattle.paper_guideline.specs.Refusals.{TooManyOpen}
 use Rattle.parts.specs.CodeRange.{operator-code}
 use Rattle.parts.specs.Part.{Table, size, sizes, Holds, HoldsAll}
 use Rattle.leaves.specs.Source.{Source, Stand, Clean}

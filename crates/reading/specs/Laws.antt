@@ -11,17 +11,17 @@ use lib.ListN.{length, getD, set, take, replicate, length-replicate}
 use lib.Seq.{getD-set-same, getD-set-other}
 use borrow.Author.Tests.{leb-true, leb-false, ltb-true, ltb-false, lt-ltb, le-ltb}
 use lib.Dec.{leb}
+use Rattle.paper_expressions.specs.Laws.Tests.{two, contra}
 use Rattle.paper_expressions.specs.View as View
-use Rattle.paper_reading.specs.LlLaws.{two, contra}
-use Rattle.paper_reading.specs.Limits.{text-limit, part-limit, token-limit}
-use Rattle.paper_reading.specs.Lexical.{Token, Tokens}
-use Rattle.paper_reading.specs.LexicalLaws as LexicalLaws
-use Rattle.paper_reading.specs.Structure.{TopLevel, Structure, Outermost}
-use Rattle.paper_reading.specs.StructureLaws.{one-structure}
-use Rattle.paper_reading.specs.Parts.{expressions}
-use Rattle.paper_reading.specs.Refusals as Refusals
+use Rattle.paper_guideline.specs.Limits.{text-limit, part-limit, token-limit}
+use Rattle.paper_tokens.specs.Lexical.{Token, Tokens}
+use Rattle.paper_tokens.specs.Laws.LexicalLaws as LexicalLaws
+use Rattle.paper_guideline.specs.Structure.{TopLevel, Structure, Outermost}
+use Rattle.paper_guideline.specs.Laws.StructureLaws.{one-structure}
+use Rattle.paper_guideline.specs.Parts.{expressions}
+use Rattle.paper_guideline.specs.Refusals as Refusals
 use Refusals.{TokenBreach, text-stage, limit-stage, long, token-breach, many-parts, total-parts}
-use Rattle.paper_reading.specs.RefusalLaws.{one-answer}
+use Rattle.paper_guideline.specs.Laws.RefusalLaws.{one-answer}
 use Rattle.parts.specs.Part.{Table, table, size}
 use Rattle.leaves.specs.Source.{source, Stand}
 use Rattle.columns.specs.Columns.{Lexed}

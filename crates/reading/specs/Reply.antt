@@ -5,10 +5,10 @@ use mathlib.Core.Bool.{Bool, true, _||_}
 use mathlib.Core.List.{List}
 use lib.Dec.{ltb}
 use lib.ListN.{length, getD, replicate}
-use Rattle.paper_reading.specs.Limits.{text-limit, part-limit}
-use Rattle.paper_reading.specs.Lexical.{Token, Tokens}
-use Rattle.paper_reading.specs.Structure.{TopLevel, Structure}
-use Rattle.paper_reading.specs.Refusals as Refusals
+use Rattle.paper_guideline.specs.Limits.{text-limit, part-limit}
+use Rattle.paper_tokens.specs.Lexical.{Token, Tokens}
+use Rattle.paper_guideline.specs.Structure.{TopLevel, Structure}
+use Rattle.paper_guideline.specs.Refusals as Refusals
 use Rattle.parts.specs.Part.{Table}
 use Rattle.leaves.specs.Source.{source, Stand}
 use Rattle.columns.specs.Columns.{Lexed}

@@ -12,7 +12,7 @@ use Rattle.paper_expressions.specs.Values.{dormant, in-progress, discarded, com
 use Rattle.paper_expressions.specs.Operators.{plus, minus, times, is>, is<, is>=, is<=, is=, is!=, max, min, _⇒_, allowed}
 use Rattle.paper_expressions.specs.Operators.{Op, arithmetic, divide, compare, and, or, includes, oneof, if, negate, isknown, not, count, sum, extreme, nth, is-in, no-such}
 use Rattle.paper_expressions.specs.Expressions.{Among, First, Applied, rule-10a, rule-10b}
-use Rattle.paper_expressions.specs.Typing.{no-applied}
+use Rattle.paper_expressions.specs.Laws.Typing.{no-applied}
 use Rattle.parts.specs.Codes.{code}
 use Rattle.resolution.specs.Letters.{letter-some, Outcome, is, none}
 use Rattle.resolution.specs.Resolution.{slots, entries, plain, orElse, resolveOf, exact-entry, first-entry, one-entry, too-many, too-many-first}

@@ -6,7 +6,7 @@ use Prim.Native.Nat.{ℕ}
 use lib.Dec.{eqb}
 use borrow.Author.Tests.{eqb-true, eqb-false}
 use Rattle.paper_expressions.specs.Types.{Ty, Text, Integer, Real, SetofText, SetofReal, SetofInteger, SetofAnything, TruthValue}
-use Rattle.paper_expressions.specs.Search.{Reflects, of-yes, of-no}
+use Rattle.paper_expressions.specs.Laws.Search.{Reflects, of-yes, of-no}
 
 abbrev pub letter : Ty → ℕ
 letter Text = 84  -- T

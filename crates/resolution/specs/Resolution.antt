@@ -12,8 +12,8 @@ use borrow.Author.Tests.{leb-true}
 use Rattle.paper_expressions.specs.Types.{Ty, Text, Integer, Real, SetofText, SetofReal, SetofInteger, SetofAnything, TruthValue, Promotes, promotion-1, promotion-2, promotion-3a, promotion-3b, promotion-3c}
 use Rattle.paper_expressions.specs.Operators.{Allowed, _⇒_}
 use Rattle.paper_expressions.specs.Expressions.{Among, here, there, Reaches, reaches-none, reaches-same, reaches-by, First, first, next}
-use Rattle.paper_expressions.specs.Typing.{from-integer, from-integers, no-first, among-cases}
-use Rattle.paper_expressions.specs.Search.{Reflects, of-yes, of-no, reflects-iff, reflects-true, sameb, same-reflects, no-clash}
+use Rattle.paper_expressions.specs.Laws.Typing.{from-integer, from-integers, no-first, among-cases}
+use Rattle.paper_expressions.specs.Laws.Search.{Reflects, of-yes, of-no, reflects-iff, reflects-true, sameb, same-reflects, no-clash}
 use Rattle.resolution.specs.Letters.{letter, Outcome, is, none, letter-reflects}
 
 -- ---- what the code computes

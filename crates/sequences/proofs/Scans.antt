@@ -3,7 +3,7 @@ use mathlib.Core.Path.{_≡_, refl}
 use mathlib.Core.Bool.{Bool, true, false}
 use mathlib.Core.Option.{Option, none, some}
 use Prim.Native.Nat.{ℕ, _<_}
-use Rattle.paper_expressions.specs.Search.{no-clash, Reflects, of-yes, of-no, reflects-true, reflects-false, allb, all-reflects, firstb, FirstOf, first-is, no-first, first-of, first-same}
+use Rattle.paper_expressions.specs.Laws.Search.{no-clash, Reflects, of-yes, of-no, reflects-true, reflects-false, allb, all-reflects, firstb, FirstOf, first-is, no-first, first-of, first-same}
 
 itself : (b : Bool) → Reflects (b ≡ true) b
 itself true = of-yes refl

@@ -8,9 +8,9 @@ use lib.ListN.{length}
 use Rattle.paper_expressions.specs.Values.{Scalar, Value, sequence, IsSequence, is-sequence}
 use Rattle.paper_expressions.specs.Clauses.{Clause}
 use Rattle.paper_expressions.specs.Operators.{Extreme, min, extreme, Best, Extremal, extremal-1, extremal-2, F, F-extreme}
-use Rattle.paper_expressions.specs.Search.{FirstOf, first-is, no-first, first-of, firstb}
-use Rattle.paper_expressions.specs.Only.{bestb, best-reflects}
-use Rattle.paper_expressions.specs.Minimum.{NumbersAndUnknowns, Minimum, minimum}
+use Rattle.paper_expressions.specs.Laws.Search.{FirstOf, first-is, no-first, first-of, firstb}
+use Rattle.paper_expressions.specs.Laws.Only.{bestb, best-reflects}
+use Rattle.paper_expressions.specs.Laws.Minimum.{NumbersAndUnknowns, Minimum, minimum}
 use Rattle.values.specs.declared.value.Value as Code
 use Rattle.values.specs.Meaning.{meaningV}
 use Rattle.operators.specs.Means.{Means}

@@ -5,9 +5,9 @@ use Prim.Native.Nat.{ℕ}
 use lib.ListN.{getD, length}
 use Rattle.paper_expressions.specs.Values as paper
 use Rattle.paper_expressions.specs.Operators as section-11
-use Rattle.paper_expressions.specs.Compare.{compS, kindS}
-use Rattle.paper_expressions.specs.Search.{allb}
-use Rattle.paper_expressions.specs.Only.{missb, suchb, fineb}
+use Rattle.paper_expressions.specs.Laws.Compare.{compS, kindS}
+use Rattle.paper_expressions.specs.Laws.Search.{allb}
+use Rattle.paper_expressions.specs.Laws.Only.{missb, suchb, fineb}
 use Rattle.numbers.specs.declared.sign.Sign.{Sign}
 use Rattle.numbers.specs.declared.sign.Sign.the-variants.{Greater, Less, Equal, Unknown, Unfit}
 use Rattle.operators.specs.declared.operator.Extreme.{Extreme}

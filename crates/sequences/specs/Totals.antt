@@ -6,7 +6,7 @@ use mathlib.Core.Option.{Option, none, some}
 use Prim.Native.Nat.{ℕ, _+_, _≤_, _^_}
 use lib.IntN.{ℤ, pos, natAbs}
 use Rattle.paper_expressions.specs.Values as paper
-use Rattle.paper_expressions.specs.Only.{integersF, numbersF}
+use Rattle.paper_expressions.specs.Laws.Only.{integersF, numbersF}
 use Rattle.numbers.specs.declared.number.Wide.{Wide}
 use Rattle.values.specs.declared.scalar.Scalar.{Scalar}
 use Rattle.values.specs.declared.scalar.Scalar.the-variants.{Unknown}

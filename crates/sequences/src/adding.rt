@@ -5,7 +5,7 @@ ghost use Prim.Native.Nat.{ℕ, _≤_, _^_};
 ghost use lib.IntN.{natAbs};
 ghost use Rattle.paper_expressions.specs.Values.{one, sequence};
 ghost use Rattle.paper_expressions.specs.Operators as paper;
-ghost use Rattle.paper_expressions.specs.Only.{sumF};
+ghost use Rattle.paper_expressions.specs.Laws.Only.{sumF};
 ghost use Rattle.values.specs.Meaning.{meaning, meaningL};
 ghost use Rattle.operators.specs.Means.{Means};
 ghost use Rattle.operators.specs.Comes.{given};

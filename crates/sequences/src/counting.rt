@@ -5,7 +5,7 @@ ghost use Prim.Native.Nat.{ℕ, _≤_};
 ghost use lib.IntN.{pos};
 ghost use Rattle.paper_expressions.specs.Values.{one};
 ghost use Rattle.paper_expressions.specs.Operators as paper;
-ghost use Rattle.paper_expressions.specs.Only.{at, nthL};
+ghost use Rattle.paper_expressions.specs.Laws.Only.{at, nthL};
 ghost use Rattle.values.specs.Meaning.{meaning, meaningL};
 ghost use Rattle.operators.specs.Means.{Means};
 ghost use Rattle.operators.specs.Comes.{given};

@@ -4,7 +4,7 @@ ghost use mathlib.Core.List.{[], _∷_};
 ghost use Prim.Native.Nat.{_<_};
 ghost use Rattle.paper_expressions.specs.Values.{one, sequence};
 ghost use Rattle.paper_expressions.specs.Operators as paper;
-ghost use Rattle.paper_expressions.specs.Only.{bestb, extremeF};
+ghost use Rattle.paper_expressions.specs.Laws.Only.{bestb, extremeF};
 ghost use Rattle.values.specs.Meaning.{meaning, meaningL, sizeOf};
 ghost use Rattle.operators.specs.Means.{Means, end};
 ghost use Rattle.operators.specs.Comes.{given};

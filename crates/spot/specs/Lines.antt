@@ -9,7 +9,7 @@ use mathlib.Core.List.{List}
 use lib.Dec.{eqb, ltb}
 use lib.ListN.{length, getD}
 use borrow.Author.Tests.{ltb-true, ltb-false}
-use Rattle.paper_reading.specs.FormsLaws.{two}
+use Rattle.paper_expressions.specs.Laws.Tests.{two}
 
 abbrev pub newline : ℕ → ℕ
 newline b = cond (eqb b 10) 1 0

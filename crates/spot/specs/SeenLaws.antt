@@ -10,10 +10,10 @@ use lib.Dec.{eqb, ltb}
 use lib.ListN.{length, take, getD, length-append, List·getD-append}
 use lib.Seq.{getD-append-seam, take-suc}
 use borrow.Author.Tests.{ltb-true, ltb-false, eq-eqb, ne-eqb}
+use Rattle.paper_expressions.specs.Laws.Tests.{two, contra}
 use Rattle.paper_expressions.specs.View.{At, at-first, at-later}
-use Rattle.paper_reading.specs.FormsLaws.{two, contra}
-use Rattle.paper_reading.specs.Limits.{text-limit}
-use Rattle.paper_reading.specs.Refusals.{Stage, text-stage, turn, Breach, high-byte, long, Refused}
+use Rattle.paper_guideline.specs.Limits.{text-limit}
+use Rattle.paper_guideline.specs.Refusals.{Stage, text-stage, turn, Breach, high-byte, long, Refused}
 use Rattle.spot.specs.Lines.{newline, newlines, Unbroken, Begins, one-more, unbroken-up}
 use Rattle.spot.specs.Seen.{countable, high-at, Describes}
 use Rattle.spot.specs.declared.seen.Seen.{Seen}

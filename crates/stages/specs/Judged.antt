@@ -5,12 +5,12 @@ use mathlib.Core.Bool.{Bool, true, false}
 use mathlib.Core.Option.{Option, none, some}
 use mathlib.Core.List.{List}
 use lib.ListN.{length, getD}
-use Rattle.paper_reading.specs.Limits.{token-limit, task-limit, data-item-limit, part-limit, assignment-limit, source-limit}
-use Rattle.paper_reading.specs.Nonterminals.{⟨process⟩}
-use Rattle.paper_reading.specs.Guideline.{Sentence-of, First-bad}
-use Rattle.paper_reading.specs.Lexical as Lexical
-use Rattle.paper_reading.specs.Structure.{TopLevel, Structure}
-use Rattle.paper_reading.specs.Refusals as Refusals
+use Rattle.paper_guideline.specs.Limits.{token-limit, task-limit, data-item-limit, part-limit, assignment-limit, source-limit}
+use Rattle.paper_grammar.specs.Nonterminals.{⟨process⟩}
+use Rattle.paper_grammar.specs.Sentence.{Sentence-of, First-bad}
+use Rattle.paper_tokens.specs.Lexical as Lexical
+use Rattle.paper_guideline.specs.Structure.{TopLevel, Structure}
+use Rattle.paper_guideline.specs.Refusals as Refusals
 use Rattle.leaves.specs.Source.{source, Stand}
 use Rattle.columns.specs.Columns.{Lexed}
 use Rattle.outline.specs.Rows.{flatten}

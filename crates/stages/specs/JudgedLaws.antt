@@ -9,18 +9,18 @@ use mathlib.Core.List.{List, [], _∷_}
 use lib.Dec.{leb, ltb}
 use lib.ListN.{length, getD}
 use borrow.Author.Tests.{leb-true, leb-false, le-leb, lt-leb, ltb-true, ltb-false}
+use Rattle.paper_expressions.specs.Laws.Tests.{two}
 use Rattle.paper_expressions.specs.View as View
-use Rattle.paper_reading.specs.Limits.{text-limit, token-limit, task-limit, data-item-limit, part-limit, assignment-limit, source-limit}
-use Rattle.paper_reading.specs.Lexical.{Token, Tokens}
-use Rattle.paper_reading.specs.Terminals.{Terminals}
-use Rattle.paper_reading.specs.TerminalLaws.{terminals-are, terminalF}
-use Rattle.paper_reading.specs.LeftOut.{LeftOut}
-use Rattle.paper_reading.specs.Guideline.{Sentence-of}
-use Rattle.paper_reading.specs.Nonterminals.{⟨process⟩}
-use Rattle.paper_reading.specs.Structure.{TopLevel, Structure}
-use Rattle.paper_reading.specs.CompleteLaws.{some-structure}
-use Rattle.paper_reading.specs.FormsLaws.{two}
-use Rattle.paper_reading.specs.Refusals as Refusals
+use Rattle.paper_guideline.specs.Limits.{text-limit, token-limit, task-limit, data-item-limit, part-limit, assignment-limit, source-limit}
+use Rattle.paper_tokens.specs.Lexical.{Token, Tokens}
+use Rattle.paper_tokens.specs.Terminals.{Terminals}
+use Rattle.paper_tokens.specs.Laws.TerminalLaws.{terminals-are, terminalF}
+use Rattle.paper_guideline.specs.LeftOut.{LeftOut}
+use Rattle.paper_grammar.specs.Sentence.{Sentence-of}
+use Rattle.paper_grammar.specs.Nonterminals.{⟨process⟩}
+use Rattle.paper_guideline.specs.Structure.{TopLevel, Structure}
+use Rattle.paper_guideline.specs.Laws.CompleteLaws.{some-structure}
+use Rattle.paper_guideline.specs.Refusals as Refusals
 use Refusals.{TooManyOpen, long, many-tokens, many-open, text-stage, count-stage}
 use Rattle.leaves.specs.Source.{Source, source, Stand, at-end, at-token}
 use Rattle.steps.specs.Levels.{stand-length}

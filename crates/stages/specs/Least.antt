@@ -7,7 +7,7 @@ use mathlib.Core.Bool.{Bool, true, false, cond}
 use mathlib.Core.Option.{Option, none, some}
 use lib.Dec.{leb}
 use borrow.Author.Tests.{leb-true, leb-false}
-use Rattle.paper_reading.specs.FormsLaws.{two}
+use Rattle.paper_expressions.specs.Laws.Tests.{two}
 
 abbrev pub Least : (ℕ → Type 0) → Option ℕ → Type 0
 Least P none = (q : ℕ) → ¬ P q

@@ -8,13 +8,13 @@ use mathlib.Core.List.{List, [], _∷_}
 use lib.ListN.{length}
 use Rattle.paper_expressions.specs.Limits.{list-limit}
 use Rattle.paper_expressions.specs.View.{At}
-use Rattle.paper_reading.specs.Lexical.{Token, Tokens}
-use Rattle.paper_reading.specs.LexicalLaws as LexicalLaws
-use Rattle.paper_reading.specs.Structure.{TopLevel, Structure, tasks, data-items}
-use Rattle.paper_reading.specs.StructureLaws.{one-structure}
-use Rattle.paper_reading.specs.Parts.{Typed, expressions, assignments, sources}
-use Rattle.paper_reading.specs.Limits.{task-limit, data-item-limit, part-limit, depth-limit, assignment-limit, source-limit, depth, longest-list}
-use Rattle.paper_reading.specs.Refusals
+use Rattle.paper_tokens.specs.Lexical.{Token, Tokens}
+use Rattle.paper_tokens.specs.Laws.LexicalLaws as LexicalLaws
+use Rattle.paper_guideline.specs.Structure.{TopLevel, Structure, tasks, data-items}
+use Rattle.paper_guideline.specs.Laws.StructureLaws.{one-structure}
+use Rattle.paper_guideline.specs.Parts.{Typed, expressions, assignments, sources}
+use Rattle.paper_guideline.specs.Limits.{task-limit, data-item-limit, part-limit, depth-limit, assignment-limit, source-limit, depth, longest-list}
+use Rattle.paper_guideline.specs.Refusals
 use Refusals.{Stage, limit-stage, turn, Breach, Refused, Read, TokenBreach, total-parts}
 use Refusals.{token-breach, too-deep, long-list, many-tasks, many-data-items, many-parts, many-assignments, many-sources, short-table}
 use Rattle.token_tests.specs.Reply.{OverLimit}

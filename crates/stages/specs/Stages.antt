@@ -8,21 +8,21 @@ use mathlib.Core.List.{List, [], _∷_}
 use lib.Dec.{leb}
 use borrow.Author.Tests.{leb-true, leb-false}
 use lib.ListN.{length}
+use Rattle.paper_expressions.specs.Laws.Tests.{two}
 use Rattle.paper_expressions.specs.View.{At, at-first, at-later}
-use Rattle.paper_reading.specs.Nonterminals.{⟨process⟩}
-use Rattle.paper_reading.specs.Guideline.{Sentence-of, First-bad}
-use Rattle.paper_reading.specs.Lexical.{Token, Tokens}
-use Rattle.paper_reading.specs.Terminals.{Terminals}
-use Rattle.paper_reading.specs.LeftOut.{LeftOut}
-use Rattle.paper_reading.specs.LexicalLaws as LexicalLaws
-use Rattle.paper_reading.specs.TerminalLaws as TerminalLaws
-use Rattle.paper_reading.specs.FormsLaws.{two}
-use Rattle.paper_reading.specs.Same.{first-bad-one}
-use Rattle.paper_reading.specs.Refusals
+use Rattle.paper_grammar.specs.Nonterminals.{⟨process⟩}
+use Rattle.paper_grammar.specs.Sentence.{Sentence-of, First-bad}
+use Rattle.paper_tokens.specs.Lexical.{Token, Tokens}
+use Rattle.paper_tokens.specs.Terminals.{Terminals}
+use Rattle.paper_guideline.specs.LeftOut.{LeftOut}
+use Rattle.paper_tokens.specs.Laws.LexicalLaws as LexicalLaws
+use Rattle.paper_tokens.specs.Laws.TerminalLaws as TerminalLaws
+use Rattle.paper_grammar.specs.Laws.Same.{first-bad-one}
+use Rattle.paper_guideline.specs.Refusals
 use Refusals.{Stage, text-stage, lexical-stage, count-stage, grammar-stage, left-out-stage, limit-stage, name-stage, type-stage, turn, number, Breach, Refused}
 use Refusals.{high-byte, long, no-rule, many-tokens, many-open, bad-token, bad-end, uses-left-out, token-breach, too-deep, long-list}
 use Refusals.{many-tasks, many-data-items, many-parts, many-assignments, many-sources, short-table, name-breach, no-type}
-use Rattle.paper_reading.specs.RefusalLaws.{by-turn, by-its-turn}
+use Rattle.paper_guideline.specs.Laws.RefusalLaws.{by-turn, by-its-turn}
 
 -- where the i-th token stands; behind the last, the text's length
 pub data PlaceOf (text : List ℕ) (ts : List Token) (i : ℕ) : ℕ → Type 0 where

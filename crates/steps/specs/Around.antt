@@ -6,10 +6,10 @@ use mathlib.Core.List.{List, _∷_, List·Memᴰ}
 use lib.ListN.{getD}
 use Rattle.paper_expressions.specs.Operators.{Op}
 use Rattle.paper_expressions.specs.Expressions.{Expr, Apply, ε, _▸_}
-use Rattle.paper_expressions.specs.Parentheses.{bare}
-use Rattle.paper_reading.specs.Lexical.{Token}
-use Rattle.paper_reading.specs.Terminals.{Terminal}
-use Rattle.paper_reading.specs.Tree.{infixes, Where, MayStand, Tree}
+use Rattle.paper_expressions.specs.Laws.Parentheses.{bare}
+use Rattle.paper_tokens.specs.Lexical.{Token}
+use Rattle.paper_tokens.specs.Terminals.{Terminal}
+use Rattle.paper_guideline.specs.Tree.{infixes, Where, MayStand, Tree}
 use Rattle.parts.specs.Part.{size, Holds}
 use Rattle.leaves.specs.Source.{Source}
 use Rattle.steps.specs.Rows.{rows}

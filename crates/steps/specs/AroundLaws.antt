@@ -10,17 +10,17 @@ use lib.Dec.{eqb}
 use lib.ListN.{length, getD, set}
 use lib.Seq.{getD-set-same, getD-set-other}
 use borrow.Author.Tests.{eqb-true, eqb-false, ne-eqb}
+use Rattle.paper_expressions.specs.Laws.Tests.{two}
 use Rattle.paper_expressions.specs.Operators.{Op}
 use Rattle.paper_expressions.specs.Expressions.{Expr, Apply, ε, _▸_}
-use Rattle.paper_expressions.specs.Parentheses.{bare}
-use Rattle.paper_reading.specs.Limits.{part-limit}
-use Rattle.paper_reading.specs.Lexical.{Token}
-use Rattle.paper_reading.specs.Terminals.{Terminal}
-use Rattle.paper_reading.specs.Tree
+use Rattle.paper_expressions.specs.Laws.Parentheses.{bare}
+use Rattle.paper_guideline.specs.Limits.{part-limit}
+use Rattle.paper_tokens.specs.Lexical.{Token}
+use Rattle.paper_tokens.specs.Terminals.{Terminal}
+use Rattle.paper_guideline.specs.Tree
 use Tree.{infixes, Where, MayStand, Tree, infix-operator, looser, unary-minus, an-atom, an-integer, a-float, a-string, parentheses, a-list, a-call}
-use Rattle.paper_reading.specs.LlLaws.{two}
-use Rattle.paper_reading.specs.TerminalLaws.{terminalF, terminal-is}
-use Rattle.paper_reading.specs.TreeLaws.{Ends, shorter}
+use Rattle.paper_tokens.specs.Laws.TerminalLaws.{terminalF, terminal-is}
+use Rattle.paper_guideline.specs.Laws.TreeLaws.{Ends, shorter}
 use Rattle.parts.specs.Part.{size, Holds}
 use Rattle.leaves.specs.Source.{Source}
 use Rattle.steps.specs.Rows.{rows, Kept, holds-kept}

@@ -11,13 +11,13 @@ use native.Mathlib.Omega.{arith}
 use lib.Dec.{eqb, ltb, leb}
 use lib.ListN.{getD, length}
 use borrow.Author.Tests.{eqb-true, eqb-false, not-true, ltb-true, ltb-false, lt-ltb, le-ltb, le-leb, lt-leb, ne-eqb}
+use Rattle.paper_expressions.specs.Laws.Tests.{two, contra, and-l, and-r, every, every-at}
 use Rattle.paper_expressions.specs.Operators.{Op}
-use Rattle.paper_reading.specs.Tokens.{“and”, terminals}
-use Rattle.paper_reading.specs.Lexical.{Token}
-use Rattle.paper_reading.specs.Tree.{infixes, Where, anywhere, assigned, MayStand, any-operator, but-and}
-use Rattle.paper_reading.specs.LlLaws.{two, contra, and-l, and-r, every, every-at}
-use Rattle.paper_reading.specs.TerminalLaws.{terminalF, terminal-is}
-use Rattle.paper_reading.specs.TreeLaws.{infixF, joins, Ends}
+use Rattle.paper_tokens.specs.Tokens.{“and”, terminals}
+use Rattle.paper_tokens.specs.Lexical.{Token}
+use Rattle.paper_guideline.specs.Tree.{infixes, Where, anywhere, assigned, MayStand, any-operator, but-and}
+use Rattle.paper_tokens.specs.Laws.TerminalLaws.{terminalF, terminal-is}
+use Rattle.paper_guideline.specs.Laws.TreeLaws.{infixF, joins, Ends}
 use Rattle.parts.specs.Codes.{code}
 use Rattle.leaves.specs.Source.{Source, Stand, at-end, at-token}
 

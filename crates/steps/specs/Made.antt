@@ -7,13 +7,13 @@ use lib.Dec.{eqb}
 use lib.ListN.{length, getD}
 use Rattle.paper_expressions.specs.Operators.{Op, negate}
 use Rattle.paper_expressions.specs.Expressions.{Expr, Exprs, Listing, Apply, ε, _▸_}
-use Rattle.paper_expressions.specs.Parentheses.{bare}
-use Rattle.paper_reading.specs.Limits.{text-limit, bracket-limit, part-limit}
-use Rattle.paper_reading.specs.Lexical.{Token}
-use Rattle.paper_reading.specs.Terminals.{Terminal}
-use Rattle.paper_reading.specs.Tree.{Where, Tree, Trees}
-use Rattle.paper_reading.specs.TreeLaws.{Ends}
-use Rattle.paper_reading.specs.Refusals.{TooManyOpen}
+use Rattle.paper_expressions.specs.Laws.Parentheses.{bare}
+use Rattle.paper_guideline.specs.Limits.{text-limit, bracket-limit, part-limit}
+use Rattle.paper_tokens.specs.Lexical.{Token}
+use Rattle.paper_tokens.specs.Terminals.{Terminal}
+use Rattle.paper_guideline.specs.Tree.{Where, Tree, Trees}
+use Rattle.paper_guideline.specs.Laws.TreeLaws.{Ends}
+use Rattle.paper_guideline.specs.Refusals.{TooManyOpen}
 use Rattle.parts.specs.Codes.{code}
 use Rattle.parts.specs.Part.{size, Holds, OpLoad}
 use Rattle.leaves.specs.Source.{Source, source, Stand, Clean}

@@ -8,7 +8,7 @@ use native.Mathlib.Omega.{arith}
 use lib.ListN.{getD, length, set, length-set}
 use lib.Seq.{getD-set-same, getD-set-other}
 use Rattle.paper_expressions.specs.Expressions.{Expr, Exprs, Atom, IntegerLit, FloatLit, StringLit, Paren, Listing, Apply, ε, _▸_}
-use Rattle.paper_reading.specs.Limits.{part-limit}
+use Rattle.paper_guideline.specs.Limits.{part-limit}
 use Rattle.parts.specs.Codes.{kind}
 use Rattle.parts.specs.Part.{Table, table, size, sizes, number-of, operands, Load, Root, Holds, HoldsAll}
 

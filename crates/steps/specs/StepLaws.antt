@@ -8,13 +8,13 @@ use native.Mathlib.Omega.{arith}
 use lib.ListN.{getD}
 use Rattle.paper_expressions.specs.Operators.{Op, negate}
 use Rattle.paper_expressions.specs.Expressions.{Expr, Apply, ε, _▸_}
-use Rattle.paper_expressions.specs.Parentheses.{bare}
-use Rattle.paper_reading.specs.Limits.{part-limit}
-use Rattle.paper_reading.specs.Lexical.{Token}
-use Rattle.paper_reading.specs.Tree.{Where, Tree}
-use Rattle.paper_reading.specs.Refusals.{TooManyOpen, as-many-open, Opening, opens-round, opens-square, Closing, closes-round, closes-square}
-use Rattle.paper_reading.specs.TerminalLaws.{terminalF, terminal-is}
-use Rattle.paper_reading.specs.TreeLaws.{Ends}
+use Rattle.paper_expressions.specs.Laws.Parentheses.{bare}
+use Rattle.paper_guideline.specs.Limits.{part-limit}
+use Rattle.paper_tokens.specs.Lexical.{Token}
+use Rattle.paper_guideline.specs.Tree.{Where, Tree}
+use Rattle.paper_guideline.specs.Refusals.{TooManyOpen, as-many-open, Opening, opens-round, opens-square, Closing, closes-round, closes-square}
+use Rattle.paper_tokens.specs.Laws.TerminalLaws.{terminalF, terminal-is}
+use Rattle.paper_guideline.specs.Laws.TreeLaws.{Ends}
 use Rattle.parts.specs.Codes.{code}
 use Rattle.parts.specs.Part.{size, Root, Holds}
 use Rattle.leaves.specs.Source.{Source, Here, Stand, at-token}

@@ -6,16 +6,16 @@ use mathlib.Core.List.{List, [], _∷_}
 use native.Mathlib.Omega.{arith}
 use lib.ListN.{length}
 use Rattle.paper_expressions.specs.Operators.{Op, negate}
-use Rattle.paper_expressions.specs.Functors.{functorF, functor-only}
+use Rattle.paper_expressions.specs.Laws.Functors.{functorF, functor-only}
 use Rattle.paper_expressions.specs.Expressions.{Expr, Exprs, Paren, Listing, Apply, ε, _▸_}
-use Rattle.paper_reading.specs.Tokens.{“-”, “open”, “close”, “[”, “]”, “comma”}
-use Rattle.paper_reading.specs.Lexical.{Token, atom}
-use Rattle.paper_reading.specs.Terminals.{Terminal, name}
-use Rattle.paper_reading.specs.Terminals
-use Rattle.paper_reading.specs.Tree
+use Rattle.paper_tokens.specs.Tokens.{“-”, “open”, “close”, “[”, “]”, “comma”}
+use Rattle.paper_tokens.specs.Lexical.{Token, atom}
+use Rattle.paper_tokens.specs.Terminals.{Terminal, name}
+use Rattle.paper_tokens.specs.Terminals
+use Rattle.paper_guideline.specs.Tree
 use Tree.{Where, anywhere, Tree, infix-operator, looser, unary-minus, an-atom, an-integer, a-float, a-string, parentheses, a-list, a-call, Trees, SomeTrees, last, then-more}
-use Rattle.paper_reading.specs.TerminalLaws.{terminalF, terminal-is, atom-kind}
-use Rattle.paper_reading.specs.TreeLaws.{shorter, Ends, ends-at, infixF}
+use Rattle.paper_tokens.specs.Laws.TerminalLaws.{terminalF, terminal-is, atom-kind}
+use Rattle.paper_guideline.specs.Laws.TreeLaws.{shorter, Ends, ends-at, infixF}
 use Rattle.leaves.specs.Leaf.{Leaf}
 use Rattle.leaves.specs.Leaf as L
 use Rattle.steps.specs.Levels.{infix-is, kindOf}

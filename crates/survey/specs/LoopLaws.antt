@@ -9,12 +9,12 @@ use native.Mathlib.Omega.{arith}
 use lib.Dec.{eqb, ltb}
 use lib.ListN.{length, getD}
 use borrow.Author.Tests.{ltb-true, ltb-false, lt-ltb, le-ltb}
+use Rattle.paper_expressions.specs.Laws.Tests.{two, contra}
 use Rattle.paper_expressions.specs.Limits.{list-limit}
 use Rattle.paper_expressions.specs.View.{At, at-first, at-later}
-use Rattle.paper_reading.specs.Limits.{token-limit, depth-limit, parts, depth, longest-list}
-use Rattle.paper_reading.specs.LlLaws.{two, contra}
-use Rattle.paper_reading.specs.Structure.{Outermost}
-use Rattle.paper_reading.specs.Tree.{Where}
+use Rattle.paper_guideline.specs.Limits.{token-limit, depth-limit, parts, depth, longest-list}
+use Rattle.paper_guideline.specs.Structure.{Outermost}
+use Rattle.paper_guideline.specs.Tree.{Where}
 use Rattle.leaves.specs.Source.{Source}
 use Rattle.steps.specs.Levels.{stand-length, where-of}
 use Rattle.outline.specs.Rows.{Row, kind-of, expression-of, where-by}

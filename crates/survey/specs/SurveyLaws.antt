@@ -4,9 +4,9 @@ use mathlib.Core.Path.{_≡_, sym, ap, subst, _∙_}
 use mathlib.Core.List.{List}
 use native.Mathlib.Omega.{arith}
 use lib.ListN.{length}
-use Rattle.paper_reading.specs.Limits.{token-limit}
-use Rattle.paper_reading.specs.Lexical.{Token}
-use Rattle.paper_reading.specs.Structure.{TopLevel}
+use Rattle.paper_guideline.specs.Limits.{token-limit}
+use Rattle.paper_tokens.specs.Lexical.{Token}
+use Rattle.paper_guideline.specs.Structure.{TopLevel}
 use Rattle.leaves.specs.Source.{Source}
 use Rattle.steps.specs.Levels.{stand-length}
 use Rattle.outline.specs.Rows.{flatten}

@@ -9,17 +9,17 @@ use lib.Dec.{ltb}
 use lib.ListN.{length, getD}
 use Rattle.paper_expressions.specs.Limits.{list-limit}
 use Rattle.paper_expressions.specs.View.{At}
-use Rattle.paper_reading.specs.Limits.{token-limit, depth-limit}
-use Rattle.paper_reading.specs.Lexical.{Token}
-use Rattle.paper_reading.specs.Structure.{Outermost, TopLevel, tasks, data-items}
-use Rattle.paper_reading.specs.Parts.{expressions, assignments, sources}
+use Rattle.paper_guideline.specs.Limits.{token-limit, depth-limit}
+use Rattle.paper_tokens.specs.Lexical.{Token}
+use Rattle.paper_guideline.specs.Structure.{Outermost, TopLevel, tasks, data-items}
+use Rattle.paper_guideline.specs.Parts.{expressions, assignments, sources}
 use Rattle.leaves.specs.Source.{Source}
 use Rattle.outline.specs.Rows.{Row, flatten, kind-of, expression-of}
 use Rattle.outline.specs.Made.{Cells, Outline, Given}
 use Rattle.survey.specs.declared.Totals.{Totals}
 use Rattle.survey.specs.declared.weights.Weighed.{Weighed}
 use Rattle.survey.specs.Tally.{of-kind, with, row-expressions, parts-in, LargeAt}
-use Rattle.paper_reading.specs.Refusals.{total-parts}
+use Rattle.paper_guideline.specs.Refusals.{total-parts}
 use Rattle.survey.specs.TallyLaws.{Too-large}
 
 -- ---- rows of a kind

@@ -7,8 +7,8 @@ use mathlib.Core.List.{List, [], _∷_}
 use lib.Dec.{eqb}
 use Rattle.paper_expressions.specs.Limits.{list-limit}
 use Rattle.paper_expressions.specs.Expressions.{Expr}
-use Rattle.paper_reading.specs.Limits.{depth-limit, parts, depth, longest-list}
-use Rattle.paper_reading.specs.Structure.{Outermost}
+use Rattle.paper_guideline.specs.Limits.{depth-limit, parts, depth, longest-list}
+use Rattle.paper_guideline.specs.Structure.{Outermost}
 use Rattle.outline.specs.Rows.{Row, kind-of, expression-of}
 
 abbrev pub of-kind : ℕ → List Row → ℕ

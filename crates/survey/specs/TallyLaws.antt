@@ -8,17 +8,17 @@ use mathlib.Core.List.{List, [], _∷_, _++_, map}
 use native.Mathlib.Omega.{arith}
 use lib.Dec.{eqb}
 use lib.ListN.{length, length-append}
+use Rattle.paper_expressions.specs.Laws.Tests.{two}
 use Rattle.paper_expressions.specs.Limits.{list-limit}
 use Rattle.paper_expressions.specs.View.{At, at-first, at-later}
-use Rattle.paper_reading.specs.Tokens
+use Rattle.paper_tokens.specs.Tokens
 use Tokens.{“plan”, “action”, “enquiry”, “data”, “=”, “caption”, “description”, “precondition”, “wait-condition”, “postcondition”, “trigger”, “terminate”, “component”, “source”, “schedule-constraint”, “terminal”, “mandatory”}
-use Rattle.paper_reading.specs.LlLaws.{two}
-use Rattle.paper_reading.specs.Structure
+use Rattle.paper_guideline.specs.Structure
 use Structure.{Outermost, Placed, Assignment, ComponentAttribute, schedule-constraint, terminal, Generic, caption, description, SourceAttribute, source-generic, mandatory}
 use Structure.{Attribute, generic, precondition, wait-condition, terminate, postcondition, trigger, component, source, Class, plan, action, enquiry, class-word, TopLevel, task, data-item, tasks, data-items}
-use Rattle.paper_reading.specs.Limits.{part-limit, depth-limit, parts, depth, longest-list}
-use Rattle.paper_reading.specs.Refusals.{Read, Breach, limit-stage, total-parts, too-deep, long-list, many-parts}
-use Rattle.paper_reading.specs.Parts.{Role, condition, wording, assigned-to, Typed, expressions, assignments, Source, sources}
+use Rattle.paper_guideline.specs.Limits.{part-limit, depth-limit, parts, depth, longest-list}
+use Rattle.paper_guideline.specs.Refusals.{Read, Breach, limit-stage, total-parts, too-deep, long-list, many-parts}
+use Rattle.paper_guideline.specs.Parts.{Role, condition, wording, assigned-to, Typed, expressions, assignments, Source, sources}
 use Rattle.outline.specs.Rows
 use Rows.{Row, kind-of, expression-of, an-assignment, generic-row, component-row, source-row, placed-rows, attribute-rows, attributes-rows, flatten}
 use Rattle.survey.specs.Tally.{of-kind, with, row-expressions, parts-in, Large, LargeAt, here, later}

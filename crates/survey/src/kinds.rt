@@ -6,7 +6,7 @@ ghost use mathlib.Core.Bool.{cond};
 ghost use Prim.Native.Nat.{_*_, _≤_};
 ghost use lib.Dec.{eqb};
 ghost use lib.ListN.{getD};
-ghost use Rattle.paper_reading.specs.Limits.{token-limit};
+ghost use Rattle.paper_guideline.specs.Limits.{token-limit};
 ghost use Rattle.survey.specs.Surveyed.{Counts};
 
 // 1 if the row `i` is of the kind, and 0 if it is not.

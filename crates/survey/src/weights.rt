@@ -7,7 +7,7 @@ use values::List;
 ghost use mathlib.Core.Path.{_≡_};
 ghost use mathlib.Core.Bool.{false};
 ghost use Prim.Native.Nat.{_*_, _≤_};
-ghost use Rattle.paper_reading.specs.Limits.{token-limit};
+ghost use Rattle.paper_guideline.specs.Limits.{token-limit};
 ghost use Rattle.survey.specs.Surveyed.{IsLarge, least as leastOf, Weighs, WeighsAll};
 
 pub struct Weighed {

@@ -5,8 +5,8 @@ use mathlib.Core.Path.{_≡_}
 use mathlib.Core.Option.{Option, none, some}
 use mathlib.Core.List.{List, [], _∷_, _++_, map}
 use lib.ListN.{length, getD}
-use Rattle.paper_expressions.specs.Parentheses.{bare}
-use Rattle.paper_reading.specs.Structure.{Name, Outermost}
+use Rattle.paper_expressions.specs.Laws.Parentheses.{bare}
+use Rattle.paper_guideline.specs.Structure.{Name, Outermost}
 use Rattle.parts.specs.Texts.{handle}
 use Rattle.parts.specs.Part.{Table}
 use Rattle.parts.specs.Encode.{Part, spelling, encode}

@@ -4,9 +4,9 @@ use mathlib.Core.Path.{_≡_}
 use mathlib.Core.Option.{Option, none, some}
 use mathlib.Core.List.{List, [], _∷_, _++_}
 use lib.ListN.{length, getD}
-use Rattle.paper_expressions.specs.Parentheses.{bare}
+use Rattle.paper_expressions.specs.Laws.Parentheses.{bare}
 use Rattle.paper_expressions.specs.View.{At}
-use Rattle.paper_reading.specs.Structure.{Name, Outermost}
+use Rattle.paper_guideline.specs.Structure.{Name, Outermost}
 use Rattle.parts.specs.Texts.{cells}
 use Rattle.parts.specs.Part.{table}
 use Rattle.parts.specs.Kept.{HasText}

@@ -5,9 +5,9 @@ use mathlib.Core.Bool.{true}
 use mathlib.Core.List.{List}
 use native.Mathlib.Omega.{arith}
 use lib.ListN.{length}
-use Rattle.paper_reading.specs.Limits.{text-limit, part-limit}
-use Rattle.paper_reading.specs.Lexical.{Token, Tokens}
-use Rattle.paper_reading.specs.Structure.{TopLevel}
+use Rattle.paper_guideline.specs.Limits.{text-limit, part-limit}
+use Rattle.paper_tokens.specs.Lexical.{Token, Tokens}
+use Rattle.paper_guideline.specs.Structure.{TopLevel}
 use Rattle.parts.specs.Part.{Table, table}
 use Rattle.leaves.specs.Source.{Source, source}
 use Rattle.outline.specs.declared.Outlined.{Outlined}

@@ -6,9 +6,9 @@ use mathlib.Core.Bool.{Bool, true, false}
 use mathlib.Core.Option.{Option, none, some}
 use mathlib.Core.List.{List, [], _∷_, _++_, map}
 use Rattle.paper_expressions.specs.View.{At, at-first, at-later}
-use Rattle.paper_reading.specs.Tokens.{“plan”, “action”, “enquiry”, “data”, “=”, “trigger”, “component”, “source”, “schedule-constraint”}
-use Rattle.paper_reading.specs.Ll.{isIn}
-use Rattle.paper_reading.specs.Structure
+use Rattle.paper_tokens.specs.Tokens.{“plan”, “action”, “enquiry”, “data”, “=”, “trigger”, “component”, “source”, “schedule-constraint”}
+use Rattle.paper_grammar.specs.Laws.Ll.{isIn}
+use Rattle.paper_guideline.specs.Structure
 use Structure.{Assignment, Placed, ComponentAttribute, schedule-constraint, terminal, Generic, caption, description, SourceAttribute, source-generic, mandatory}
 use Structure.{Attribute, generic, precondition, wait-condition, terminate, postcondition, trigger, component, source, Class, plan, action, enquiry, TopLevel, task, data-item}
 use Rattle.outline.specs.Rows

@@ -7,9 +7,9 @@ use mathlib.Core.List.{List, [], _∷_, _++_, map}
 use native.Mathlib.Omega.{arith}
 use lib.ListN.{length, getD, length-append}
 use Rattle.paper_expressions.specs.Expressions.{Expr, Exprs, Atom, IntegerLit, FloatLit, StringLit, Paren, Listing, Apply, ε, _▸_}
-use Rattle.paper_expressions.specs.Parentheses.{bare}
+use Rattle.paper_expressions.specs.Laws.Parentheses.{bare}
 use Rattle.paper_expressions.specs.View.{At, at-first, at-later}
-use Rattle.paper_reading.specs.Structure.{Outermost}
+use Rattle.paper_guideline.specs.Structure.{Outermost}
 use Rattle.parts.specs.Codes.{code}
 use Rattle.parts.specs.Part.{Table, size, sizes, number-of, Holds, HoldsAll}
 use Rattle.parts.specs.Encode.{Part, part, name-load, spelling, spellings, encode, encodes, Stands, join}

@@ -10,15 +10,15 @@ use native.Mathlib.Nat.{not-suc-le-zero}
 use native.Mathlib.Omega.{arith}
 use native.Mathlib.Decide.{decLt}
 use lib.ListN.{length, getD, set, length-append}
+use Rattle.paper_expressions.specs.Laws.Tests.{contra}
 use Rattle.paper_expressions.specs.Limits.{text-limit}
-use Rattle.paper_expressions.specs.Parentheses.{bare}
-use Rattle.paper_expressions.specs.Search.{at-one}
+use Rattle.paper_expressions.specs.Laws.Parentheses.{bare}
+use Rattle.paper_expressions.specs.Laws.Search.{at-one}
 use Rattle.paper_expressions.specs.View.{At, at-first, at-later}
-use Rattle.paper_reading.specs.FormsLaws.{contra}
-use Rattle.paper_reading.specs.Lexical.{inner}
-use Rattle.paper_reading.specs.Refusals.{long-name}
-use Rattle.paper_reading.specs.Terminals as Terminals
-use Rattle.paper_reading.specs.Structure.{Name, Outermost}
+use Rattle.paper_tokens.specs.Lexical.{inner}
+use Rattle.paper_guideline.specs.Refusals.{long-name}
+use Rattle.paper_tokens.specs.Terminals as Terminals
+use Rattle.paper_guideline.specs.Structure.{Name, Outermost}
 use Rattle.parts.specs.Texts.{cells, handle}
 use Rattle.parts.specs.Part.{table, size}
 use Rattle.parts.specs.Kept.{HasText, Kept, holds-kept}

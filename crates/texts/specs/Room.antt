@@ -9,16 +9,16 @@ use native.Mathlib.Omega.{arith}
 use lib.Dec.{eqb}
 use lib.ListN.{length, length-append}
 use borrow.Author.Tests.{eqb-true}
+use Rattle.paper_expressions.specs.Laws.Tests.{two, and-l, and-r}
 use Rattle.paper_expressions.specs.View.{At, at-first, at-later}
 use Rattle.paper_expressions.specs.Operators.{Op, arithmetic, divide, compare, and, or, includes, oneof, if, negate, isknown, not, count, sum, extreme, nth, is-in, no-such}
 use Rattle.paper_expressions.specs.Operators.{Name, _means_, Functor, of-section-11, of-no-section}
 use Rattle.paper_expressions.specs.Expressions.{Expr}
-use Rattle.paper_expressions.specs.Parentheses.{bare, bares}
-use Rattle.paper_reading.specs.LlLaws.{two, and-l, and-r}
-use Rattle.paper_reading.specs.Limits.{text-limit}
-use Rattle.paper_reading.specs.Lexical.{Token, inner, Tokens, at-end, skip, take-token}
-use Rattle.paper_reading.specs.Terminals as Terminals
-use Rattle.paper_reading.specs.Tree
+use Rattle.paper_expressions.specs.Laws.Parentheses.{bare, bares}
+use Rattle.paper_guideline.specs.Limits.{text-limit}
+use Rattle.paper_tokens.specs.Lexical.{Token, inner, Tokens, at-end, skip, take-token}
+use Rattle.paper_tokens.specs.Terminals as Terminals
+use Rattle.paper_guideline.specs.Tree
 use Tree.{Where, Tree, infix-operator, looser, unary-minus, an-atom, an-integer, a-float, a-string, parentheses, a-list, a-call, empty, nonempty, last, then-more}
 use Rattle.parts.specs.Codes.{code}
 use Rattle.parts.specs.Encode.{name, spelling, spellings}

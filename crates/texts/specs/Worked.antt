@@ -7,8 +7,8 @@ use lib.IntN.{pos}
 use Rattle.paper_expressions.specs.Bytes.{bytes}
 use Rattle.paper_expressions.specs.Operators.{arithmetic, plus}
 use Rattle.paper_expressions.specs.Expressions.{Atom, IntegerLit, StringLit, Paren, Apply, ε, _▸_}
-use Rattle.paper_reading.specs.Tokens.{“caption”}
-use Rattle.paper_reading.specs.Structure.{Name, plan}
+use Rattle.paper_tokens.specs.Tokens.{“caption”}
+use Rattle.paper_guideline.specs.Structure.{Name, plan}
 use Rattle.parts.specs.Encode.{Part}
 use Rattle.outline.specs.Rows.{Row, a-task, with-expression, an-assignment}
 use Rattle.texts.specs.Encoded.{text-of, parts-of, cells-of}

@@ -6,11 +6,10 @@ use mathlib.Core.Logic.{⊎-elim}
 use mathlib.Core.List.{List, [], _∷_, _++_, append-nil}
 use lib.Dec.{eqb, leb}
 use borrow.Author.Tests.{eqb-true, eqb-false}
-use Rattle.paper_reading.specs.Kinds.{other, letter, power, digit, minus, point, quote, backslash, blank, slash, star, high, double-quote, kindOf}
-use Rattle.paper_reading.specs.Forms.{Form, never, empty, any, one, _then_, _or_, many, no, One, Many, stop, more, Match, isIn}
-use Rattle.paper_reading.specs.FormsLaws.{contra, two, or-cases}
-use Rattle.paper_reading.specs.LlLaws.{and-l, and-r}
-use Rattle.paper_reading.specs.Lexical.{plain-float, exponent, float-form}
+use Rattle.paper_expressions.specs.Laws.Tests.{contra, two, or-cases, and-l, and-r}
+use Rattle.paper_tokens.specs.Kinds.{other, letter, power, digit, minus, point, quote, backslash, blank, slash, star, high, double-quote, kindOf}
+use Rattle.paper_tokens.specs.Forms.{Form, never, empty, any, one, _then_, _or_, many, no, One, Many, stop, more, Match, isIn}
+use Rattle.paper_tokens.specs.Lexical.{plain-float, exponent, float-form}
 use Rattle.token_tests.specs.Walk.{or-right}
 
 -- D E and d e

@@ -12,17 +12,16 @@ use native.Mathlib.Omega.{arith}
 use lib.Dec.{eqb, leb, ltb}
 use lib.ListN.{getD, List·getD-eq-default}
 use borrow.Author.Tests.{eqb-true, eqb-false, eq-eqb, ne-eqb, le-leb, lt-ltb, le-ltb, ltb-true}
+use Rattle.paper_expressions.specs.Laws.Tests.{contra, two, and-l, and-r, every, every-at}
 use Rattle.paper_expressions.specs.Bytes.{bytes}
-use Rattle.paper_expressions.specs.Search.{sameb, same-reflects, Reflects, of-yes, of-no, reflects-true, true-reflects}
-use Rattle.paper_reading.specs.Tokens.{“open”, ‘data-type’, ‘float’, reserved-count}
-use Rattle.paper_reading.specs.FormsLaws.{contra, two}
-use Rattle.paper_reading.specs.LlLaws.{and-l, and-r, every, every-at}
-use Rattle.paper_reading.specs.Ll.{isIn}
-use Rattle.paper_reading.specs.StructureLaws.{in-list}
-use Rattle.paper_reading.specs.Lexical.{Rule, atom, Matches, Token, inner, HasExponent}
-use Rattle.paper_reading.specs.Terminals.{OneOf, name, Terminal, a-reserved-word, yes-no, a-data-type, another-atom, an-integer, a-float, a-string}
-use Rattle.paper_reading.specs.TerminalLaws.{one-terminal, reserved-below}
-use Rattle.paper_reading.specs.LeftOut.{left-out-words, left-out-functors, LeftOut, left-out-word, left-out-functor, left-out-exponent, further-on}
+use Rattle.paper_expressions.specs.Laws.Search.{sameb, same-reflects, Reflects, of-yes, of-no, reflects-true, true-reflects}
+use Rattle.paper_tokens.specs.Tokens.{“open”, ‘data-type’, ‘float’, reserved-count}
+use Rattle.paper_grammar.specs.Laws.Ll.{isIn}
+use Rattle.paper_guideline.specs.Laws.StructureLaws.{in-list}
+use Rattle.paper_tokens.specs.Lexical.{Rule, atom, Matches, Token, inner, HasExponent}
+use Rattle.paper_tokens.specs.Terminals.{OneOf, name, Terminal, a-reserved-word, yes-no, a-data-type, another-atom, an-integer, a-float, a-string}
+use Rattle.paper_tokens.specs.Laws.TerminalLaws.{one-terminal, reserved-below}
+use Rattle.paper_guideline.specs.LeftOut.{left-out-words, left-out-functors, LeftOut, left-out-word, left-out-functor, left-out-exponent, further-on}
 use Rattle.parts.specs.Texts.{cells}
 use Rattle.leaves.specs.Leaf.{atom-range}
 use Rattle.leaves.specs.Source.{Source, Here, Stand, at-end, at-token}

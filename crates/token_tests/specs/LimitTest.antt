@@ -10,17 +10,17 @@ use lib.Dec.{eqb, leb, ltb}
 use lib.IntN.{natAbs, negℤ}
 use lib.ListN.{length, getD}
 use borrow.Author.Tests.{ne-eqb, leb-true, leb-false, lt-ltb, le-ltb, ltb-true}
+use Rattle.paper_expressions.specs.Laws.Tests.{contra, two, or-cases}
 use Rattle.paper_expressions.specs.Limits as Values
 use Values.{integer-limit, real-limit}
 use Rattle.paper_expressions.specs.View.{At, at-first, at-later}
-use Rattle.paper_reading.specs.Tokens.{‘integer’, ‘float’, reserved-count}
-use Rattle.paper_reading.specs.Limits.{decimal-limit}
-use Rattle.paper_reading.specs.Literals.{whole, thousandths, behind-point}
-use Rattle.paper_reading.specs.FormsLaws.{contra, two, or-cases}
-use Rattle.paper_reading.specs.Lexical.{Token, inner}
-use Rattle.paper_reading.specs.Terminals.{name, Terminal, a-reserved-word, yes-no, a-data-type, another-atom, an-integer, a-float, a-string}
-use Rattle.paper_reading.specs.TerminalLaws.{one-terminal, reserved-below}
-use Rattle.paper_reading.specs.Refusals.{TokenBreach, long-name, long-text, large-integer, large-real, long-fraction}
+use Rattle.paper_tokens.specs.Tokens.{‘integer’, ‘float’, reserved-count}
+use Rattle.paper_guideline.specs.Limits.{decimal-limit}
+use Rattle.paper_tokens.specs.Literals.{whole, thousandths, behind-point}
+use Rattle.paper_tokens.specs.Lexical.{Token, inner}
+use Rattle.paper_tokens.specs.Terminals.{name, Terminal, a-reserved-word, yes-no, a-data-type, another-atom, an-integer, a-float, a-string}
+use Rattle.paper_tokens.specs.Laws.TerminalLaws.{one-terminal, reserved-below}
+use Rattle.paper_guideline.specs.Refusals.{TokenBreach, long-name, long-text, large-integer, large-real, long-fraction}
 use Rattle.parts.specs.Texts.{cells}
 use Rattle.leaves.specs.Cells.{cells-more}
 use Rattle.leaves.specs.Leaf.{atom-range}

@@ -3,8 +3,8 @@ use Prim.Native.Nat.{ℕ, _≤_}
 use mathlib.Core.Path.{_≡_}
 use mathlib.Core.List.{List}
 use Rattle.paper_expressions.specs.View
-use Rattle.paper_reading.specs.Lexical.{Token, Tokens}
-use Rattle.paper_reading.specs.Refusals.{TokenBreach}
+use Rattle.paper_tokens.specs.Lexical.{Token, Tokens}
+use Rattle.paper_guideline.specs.Refusals.{TokenBreach}
 use Rattle.leaves.specs.Source.{Source, Stand}
 use Rattle.token_tests.specs.declared.Found.{Found}
 use Rattle.token_tests.specs.declared.Found.the-variants.{At, Nowhere}

@@ -9,8 +9,8 @@ use native.Mathlib.Omega.{arith}
 use lib.Dec.{leb, ltb}
 use lib.ListN.{length, getD}
 use borrow.Author.Tests.{ltb-true, ltb-false, le-leb, lt-leb}
-use Rattle.paper_reading.specs.FormsLaws.{two}
-use Rattle.paper_reading.specs.Lexical.{Matches, Token, Tokens, at-end, skip, take-token}
+use Rattle.paper_expressions.specs.Laws.Tests.{two}
+use Rattle.paper_tokens.specs.Lexical.{Matches, Token, Tokens, at-end, skip, take-token}
 use Rattle.parts.specs.Texts.{cells}
 use Rattle.leaves.specs.Cells.{part-cells}
 use Rattle.leaves.specs.Source

@@ -4,7 +4,7 @@ use parts::byte;
 ghost use mathlib.Core.Path.{_≡_};
 ghost use Prim.Native.Nat.{_+_, _≤_, _<_};
 ghost use lib.ListN.{length, getD};
-ghost use Rattle.paper_expressions.specs.Search.{sameb};
+ghost use Rattle.paper_expressions.specs.Laws.Search.{sameb};
 ghost use Rattle.parts.specs.Texts.{cells};
 ghost use Rattle.token_tests.specs.Exponent.{begins-exponent, has-exponent};
 ghost use Rattle.token_tests.specs.LeftOutTest.{listed, name-bytes, name-at, named-from, left-out-test};

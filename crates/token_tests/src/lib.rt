@@ -11,7 +11,7 @@ ghost use mathlib.Core.Path.{_≡_};
 ghost use mathlib.Core.Bool.{true, false};
 ghost use Prim.Native.Nat.{_<_};
 ghost use lib.ListN.{length};
-ghost use Rattle.paper_reading.specs.LeftOut.{LeftOut};
+ghost use Rattle.paper_guideline.specs.LeftOut.{LeftOut};
 ghost use Rattle.leaves.specs.Source.{source};
 ghost use Rattle.token_tests.specs.Reply.{First, OverLimit};
 ghost use Rattle.token_tests.specs.LeftOutTest.{left-out-at};

@@ -10,7 +10,7 @@ ghost use Prim.Native.Nat.{_+_, _≤_, _<_};
 ghost use lib.Dec.{ltb};
 ghost use lib.ListN.{length};
 ghost use Rattle.paper_expressions.specs.Limits.{integer-limit};
-ghost use Rattle.paper_reading.specs.Literals.{behind-point};
+ghost use Rattle.paper_tokens.specs.Literals.{behind-point};
 ghost use Rattle.parts.specs.Texts.{cells};
 ghost use Rattle.leaves.specs.Numbers as N;
 ghost use Rattle.token_tests.specs.LimitTest.{unsigned as unsignedOf, large, limit-test};

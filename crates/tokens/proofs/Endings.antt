@@ -9,11 +9,11 @@ use borrow.Author.Tests.{le-ltb, lt-ltb}
 use lib.Dec.{ltb}
 use lib.ListN.{length, getD}
 use Rattle.paper_expressions.specs.View.{At, at-first, at-later}
-use Rattle.paper_reading.specs.Limits.{text-limit, token-limit}
-use Rattle.paper_reading.specs.Lexical
+use Rattle.paper_guideline.specs.Limits.{text-limit, token-limit}
+use Rattle.paper_tokens.specs.Lexical
 use Lexical.{Rule, Fits, Stuck, Tokens, at-end}
-use Rattle.paper_reading.specs.LexicalLaws.{one-list}
-use Rattle.paper_reading.specs.Refusals
+use Rattle.paper_tokens.specs.Laws.LexicalLaws.{one-list}
+use Rattle.paper_guideline.specs.Refusals
 use Refusals.{Stage, text-stage, lexical-stage, count-stage, grammar-stage, left-out-stage, limit-stage, name-stage, type-stage, turn, TooManyOpen, Breach, high-byte, long, no-rule, many-tokens, many-open, Refused}
 use Rattle.matches.proofs.Steps.{lt-or-le}
 use Rattle.tokens.specs.Reply.{Accepted}

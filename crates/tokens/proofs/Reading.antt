@@ -8,12 +8,12 @@ use mathlib.Core.List.{List, [], _∷_, _++_, map, append-nil, append-assoc}
 use borrow.Author.Tests.{le-ltb, lt-ltb}
 use lib.Dec.{ltb}
 use lib.ListN.{length, getD, set, replicate, length-replicate, length-append, length-set, length-map}
-use Rattle.paper_reading.specs.Limits.{text-limit, token-limit}
-use Rattle.paper_reading.specs.Lexical
+use Rattle.paper_guideline.specs.Limits.{text-limit, token-limit}
+use Rattle.paper_tokens.specs.Lexical
 use Lexical.{Rule, Fits, Longest, Skipped, skips-white-space, skips-comment, Comes, starts, goes-on, Stuck, Tokens, at-end, skip, take-token, token}
-use Rattle.paper_reading.specs.LexicalLaws.{one-length, one-list}
-use Rattle.paper_reading.specs.Terminals.{Terminal, none}
-use Rattle.paper_reading.specs.Refusals
+use Rattle.paper_tokens.specs.Laws.LexicalLaws.{one-length, one-list}
+use Rattle.paper_tokens.specs.Terminals.{Terminal, none}
+use Rattle.paper_guideline.specs.Refusals
 use Refusals.{Stage, text-stage, lexical-stage, count-stage, grammar-stage, left-out-stage, limit-stage, name-stage, type-stage, turn, TooManyOpen, Breach, no-rule, many-tokens, many-open, Refused}
 use Rattle.words.proofs.Table.{part-length}
 use Rattle.matches.proofs.Steps.{lt-or-le, cond-yes, cond-not}

@@ -12,7 +12,7 @@ use Rattle.paper_expressions.specs.Types.{Ty}
 use Rattle.paper_expressions.specs.View.{View, Apart}
 use Rattle.paper_expressions.specs.Operators.{Op}
 use Rattle.paper_expressions.specs.Expressions.{Expr, Exprs, Atom, IntegerLit, FloatLit, StringLit, Paren, Listing, Apply, Listed, Applied, HasType, rule-8-9, rule-10, HaveTypes, types-none, types-more}
-use Rattle.paper_expressions.specs.Typing.{types-only}
+use Rattle.paper_expressions.specs.Laws.Typing.{types-only}
 use Rattle.parts.specs.Codes.{code, kind}
 use Rattle.parts.specs.CodeRange.{operator-code}
 use Rattle.parts.specs.Part.{number-of, operands}

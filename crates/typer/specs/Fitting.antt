@@ -10,8 +10,8 @@ use lib.ListN.{getD, length}
 use Rattle.paper_expressions.specs.Types.{Ty, Text, Integer, Real, SetofText, SetofReal, SetofInteger, SetofAnything, TruthValue, Promotes, inferred}
 use Rattle.paper_expressions.specs.View.{View, Item, At, Apart}
 use Rattle.paper_expressions.specs.Expressions.{Expr, HasType}
-use Rattle.paper_expressions.specs.Typing.{one-type}
-use Rattle.paper_expressions.specs.Search.{Reflects, of-yes, of-no, reflects-iff, at-one}
+use Rattle.paper_expressions.specs.Laws.Typing.{one-type}
+use Rattle.paper_expressions.specs.Laws.Search.{Reflects, of-yes, of-no, reflects-iff, at-one}
 use Rattle.parts.specs.Part.{Table, Ends, Within}
 use Rattle.parts.specs.Items.{Items, at-index, index-of}
 use Rattle.typer.specs.declared.fitting.Role.{Role}

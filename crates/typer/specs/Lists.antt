@@ -6,7 +6,7 @@ use Prim.Native.Nat.{ℕ}
 use lib.Dec.{eqb}
 use Rattle.paper_expressions.specs.Types.{Ty, Text, Integer, Real, SetofText, SetofReal, SetofInteger, SetofAnything, TruthValue}
 use Rattle.paper_expressions.specs.Expressions.{Each, all-none, all-more, TextType, text-type, IntegerType, integer-type, IntegerOrReal, integer-or, or-real, Listed, rule-8, rule-9a, rule-9b, rule-9c}
-use Rattle.paper_expressions.specs.Typing.{no-list}
+use Rattle.paper_expressions.specs.Laws.Typing.{no-list}
 use Rattle.resolution.specs.Letters.{letter, Outcome, is, none}
 
 -- a list of type l gets a text, an integer, a real in front

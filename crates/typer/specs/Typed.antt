@@ -11,9 +11,9 @@ use borrow.Author.Tests.{eq-eqb}
 use Rattle.paper_expressions.specs.Types.{Ty}
 use Rattle.paper_expressions.specs.View.{View, Apart}
 use Rattle.paper_expressions.specs.Expressions.{Expr, Exprs, HasType, HaveTypes, types-none, types-more}
-use Rattle.paper_expressions.specs.Typing.{one-type}
-use Rattle.paper_expressions.specs.Parentheses.{bare, type-to-bare, type-of-bare}
-use Rattle.paper_expressions.specs.Search.{no-clash}
+use Rattle.paper_expressions.specs.Laws.Typing.{one-type}
+use Rattle.paper_expressions.specs.Laws.Parentheses.{bare, type-to-bare, type-of-bare}
+use Rattle.paper_expressions.specs.Laws.Search.{no-clash}
 use Rattle.parts.specs.Part.{Table, Load, sizes, number-of, operands, HoldsAll, Ends, Within, Withins}
 use Rattle.parts.specs.Operands.{ended, within-kids, nth-of, from, from-all, from-step, within-nth, Left, left-all, left-ends, left-step}
 use Rattle.parts.specs.Items.{Items}

@@ -11,8 +11,8 @@ use lib.Dec.{ltb}
 use borrow.Author.Tests.{lt-ltb, le-ltb}
 use Rattle.paper_expressions.specs.Bytes.{fold, folded}
 use Rattle.paper_expressions.specs.Operators as paper
-use Rattle.paper_expressions.specs.Compare.{orderT, byte, three, OrderT, spelled, greaterT, lessT, sameT}
-use Rattle.paper_expressions.specs.Search.{sameb, alikeb, reflects-true, reflects-false, same-reflects, no-clash}
+use Rattle.paper_expressions.specs.Laws.Compare.{orderT, byte, three, OrderT, spelled, greaterT, lessT, sameT}
+use Rattle.paper_expressions.specs.Laws.Search.{sameb, alikeb, reflects-true, reflects-false, same-reflects, no-clash}
 use Rattle.paper_expressions.specs.Clauses.{Clause}
 use Rattle.numbers.specs.Signs.{signed, verdict}
 use Rattle.numbers.specs.declared.sign.Sign.the-variants.{Greater, Less, Equal}

@@ -1,8 +1,8 @@
 -- What is decided of a text. Definitions only.
 use Prim.Native.Nat.{ℕ, _≤_}
 use mathlib.Core.List.{List}
-use Rattle.paper_reading.specs.Structure.{TopLevel}
-use Rattle.paper_reading.specs.Refusals as Refusals
+use Rattle.paper_guideline.specs.Structure.{TopLevel}
+use Rattle.paper_guideline.specs.Refusals as Refusals
 use Refusals.{Stage, turn, Breach}
 use Rattle.verdict.specs.declared.Verdict.{Verdict}
 use Rattle.verdict.specs.declared.Verdict.the-variants.{Reads, Refused}

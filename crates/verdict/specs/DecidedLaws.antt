@@ -2,13 +2,13 @@
 use Prim.Native.Nat.{ℕ, _≤_}
 use mathlib.Core.Path.{_≡_, subst}
 use mathlib.Core.List.{List}
-use Rattle.paper_reading.specs.FormsLaws.{contra}
-use Rattle.paper_reading.specs.Refusals as Refusals
+use Rattle.paper_expressions.specs.Laws.Tests.{contra}
+use Rattle.paper_guideline.specs.Refusals as Refusals
 use Refusals.{Stage, Breach}
 use Refusals.{high-byte, long, no-rule, many-tokens, many-open, bad-token, bad-end, uses-left-out, token-breach, too-deep, long-list}
 use Refusals.{many-tasks, many-data-items, many-parts, many-assignments, many-sources, short-table, name-breach, no-type}
 use lib.ListN.{length}
-use Rattle.paper_reading.specs.Limits.{text-limit, part-limit}
+use Rattle.paper_guideline.specs.Limits.{text-limit, part-limit}
 use Rattle.parts.specs.Part.{Table}
 use Rattle.outline.specs.Made.{row-cells}
 use Rattle.reading.specs.declared.Reading.{Reading}

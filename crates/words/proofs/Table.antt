@@ -7,8 +7,8 @@ use mathlib.Core.List.{List, [], _∷_, _++_}
 use lib.ListN.{length, take, drop, getD, length-drop, length-append}
 use lib.Seq.{length-take-le, getD-take, getD-drop, ext-getD, drop-cons, drop-drop, take-append-seam, drop-append-seam}
 use Rattle.paper_expressions.specs.Bytes.{bytes}
-use Rattle.paper_reading.specs.Words.{reserved, yes-or-no, data-types}
-use Rattle.paper_reading.specs.Lexical.{part}
+use Rattle.paper_tokens.specs.Words.{reserved, yes-or-no, data-types}
+use Rattle.paper_tokens.specs.Lexical.{part}
 use Rattle.words.specs.Entries.{strings, packed, table}
 
 pub part-at : (t : List ℕ) (at n i : ℕ) → i < n → getD (part t at n) i 0 ≡ getD t (at + i) 0

@@ -6,7 +6,7 @@ use mathlib.Core.Bool.{Bool, true, false}
 use mathlib.Core.List.{List, [], _∷_, _++_, map}
 use lib.ListN.{length, getD}
 use Rattle.paper_expressions.specs.Bytes.{bytes}
-use Rattle.paper_reading.specs.Words.{reserved, yes-or-no, data-types}
+use Rattle.paper_tokens.specs.Words.{reserved, yes-or-no, data-types}
 
 -- the reserved strings by their terminals, then yes and no, then the data types
 unfoldable pub strings : List (List ℕ)

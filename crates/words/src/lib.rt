@@ -3,7 +3,7 @@ ghost use mathlib.Core.Path.{_≡_};
 ghost use mathlib.Core.Bool.{Bool, true};
 ghost use Prim.Native.Nat.{_+_, _≤_, _<_};
 ghost use lib.ListN.{length};
-ghost use Rattle.paper_reading.specs.Lexical.{part};
+ghost use Rattle.paper_tokens.specs.Lexical.{part};
 ghost use Rattle.words.specs.Entries.{table, Found, Same};
 
 // The length of each string, and its bytes: the 95 reserved strings in the order of their terminals, yes and no, the ten data types.

@@ -8,7 +8,7 @@ use lib.ListN.{length, take, drop, length-map, length-take, List·getD-map, drop
 use lib.Seq.{drop-cons, getD-take}
 use Rattle.paper_expressions.specs.Bytes.{bytes}
 use Rattle.paper_expressions.specs.Values.{Scalar, sequence}
-use Rattle.paper_reading.specs.Line.{scalar-written, more-written, value-written}
+use Rattle.paper_guideline.specs.Line.{scalar-written, more-written, value-written}
 use Rattle.values.specs.Meaning.{held, meaning, meaningL, sizeOf, at, cell}
 use Rattle.values.specs.declared.scalar.Scalar.the-variants.{Unknown}
 use Rattle.values.specs.declared.list.List as Code

@@ -6,7 +6,7 @@ use lib.ListN.{length}
 use Rattle.paper_expressions.specs.Bytes.{bytes}
 use Rattle.paper_expressions.specs.Types.{Ty, Text, Integer, Real, SetofText, SetofReal, SetofInteger, SetofAnything, TruthValue}
 use Rattle.paper_expressions.specs.Values.{Value}
-use Rattle.paper_reading.specs.Line.{type-name, gives, answer-written, value-written}
+use Rattle.paper_guideline.specs.Line.{type-name, gives, answer-written, value-written}
 use Rattle.resolution.specs.Letters.{letter, same-letter}
 use Rattle.digits.specs.Appends.{Appends, append-then}
 

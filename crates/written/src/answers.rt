@@ -1,6 +1,6 @@
 // The answer of a line, behind its number.
-ghost use Rattle.paper_reading.specs.Line.{answer-written};
-ghost use Rattle.paper_reading.specs.Line as line;
+ghost use Rattle.paper_guideline.specs.Line.{answer-written};
+ghost use Rattle.paper_guideline.specs.Line as line;
 ghost use Rattle.values.specs.Meaning.{meaningV};
 ghost use Rattle.digits.specs.Appends.{Appends};
 ghost use Rattle.written.specs.Named.{OfType, name-of, answer-of};

@@ -3,7 +3,7 @@ ghost use Prim.Native.Nat.{_<_};
 ghost use lib.ListN.{drop};
 ghost use Rattle.paper_expressions.specs.Limits.{list-limit};
 ghost use Rattle.paper_expressions.specs.Values as paper;
-ghost use Rattle.paper_reading.specs.Line.{more-written, value-written};
+ghost use Rattle.paper_guideline.specs.Line.{more-written, value-written};
 ghost use Rattle.values.specs.Meaning.{meaningL, meaningV};
 ghost use Rattle.digits.specs.Appends.{Appends};
 ghost use Rattle.written.specs.Lists.{element-written};

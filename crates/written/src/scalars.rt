@@ -1,6 +1,6 @@
 // One scalar: a text is written bare, what is unknown as that word.
 ghost use Rattle.paper_expressions.specs.Values as paper;
-ghost use Rattle.paper_reading.specs.Line.{scalar-written};
+ghost use Rattle.paper_guideline.specs.Line.{scalar-written};
 ghost use Rattle.values.specs.Meaning.{meaning};
 ghost use Rattle.digits.specs.Appends.{Appends};
 use digits::integer;

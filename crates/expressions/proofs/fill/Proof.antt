@@ -6,7 +6,7 @@ use native.Mathlib.Omega.{arith}
 use lib.ListN.{length}
 use borrow.Author.Tests.{not-true}
 use borrow.Author.Needs.{needs}
-use Rattle.paper_reading.specs.FormsLaws.{contra}
+use Rattle.paper_expressions.specs.Laws.Tests.{contra}
 use Rattle.parts.specs.Part.{table}
 use Rattle.leaves.specs.Source.{source}
 use Rattle.outline.specs.Rows.{Row}

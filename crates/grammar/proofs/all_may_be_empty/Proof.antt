@@ -6,8 +6,8 @@ use mathlib.Core.Path.{_≡_, refl, sym, ap, _∙_}
 use lib.ListN.{length}
 use denote.Ref.{now}
 use borrow.Author.Tests.{not-true, not-false}
-use Rattle.paper_reading.specs.Ll.{blank}
-use Rattle.paper_reading.specs.Form.{G}
+use Rattle.paper_grammar.specs.Laws.Ll.{blank}
+use Rattle.paper_grammar.specs.Laws.Form.{G}
 use Rattle.grammar.proofs.MachineLaws.{syms, blank-token, blank-symbol, blank-end}
 use Rattle.grammar.proofs.all_may_be_empty.Statement.{statement}
 use Rattle.grammar.proofs.all_may_be_empty.Tie as tie

@@ -1,6 +1,6 @@
 -- `byte` reads what the table has: the table is Form's rows as bytes, by one computed equality.
 use borrow.Author.Needs.{needs}
-use Rattle.paper_reading.specs.Form.{rows}
+use Rattle.paper_grammar.specs.Laws.Form.{rows}
 use Rattle.grammar.specs.Tables.{alternatives, alternatives-table}
 use Rattle.grammar.proofs.TableLaws.{byte-at}
 use Rattle.grammar.proofs.byte.Statement.{statement}

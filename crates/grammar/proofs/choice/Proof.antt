@@ -1,7 +1,7 @@
 -- `choice` searches the symbol's own part of the alternatives: where it starts and ends is in the table, by one computed equality.
 use borrow.Author.Needs.{needs}
 use mathlib.Core.Path.{sym}
-use Rattle.paper_reading.specs.Form.{rows}
+use Rattle.paper_grammar.specs.Laws.Form.{rows}
 use Rattle.grammar.specs.Tables.{rows-table}
 use Rattle.grammar.proofs.TableLaws.{row-bounds, row-choice, no-choice}
 use Rattle.grammar.proofs.choice.Statement.{statement}

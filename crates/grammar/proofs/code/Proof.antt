@@ -1,7 +1,7 @@
 -- `code` is the byte of each start symbol.
 use borrow.Author.Needs.{needs}
 use mathlib.Core.Path.{sym, ap}
-use Rattle.paper_reading.specs.Ll.{N}
+use Rattle.paper_grammar.specs.Laws.Ll.{N}
 use Rattle.grammar.specs.declared.Start.{Start}
 use Rattle.grammar.specs.Reply.{form-of}
 use Rattle.grammar.proofs.code.Statement.{statement}

@@ -1,7 +1,7 @@
 -- `may_be_empty` reads Form's blanks: the table is those, by one computed equality.
 use borrow.Author.Needs.{needs}
 use mathlib.Core.Path.{sym}
-use Rattle.paper_reading.specs.Form.{blanks}
+use Rattle.paper_grammar.specs.Laws.Form.{blanks}
 use Rattle.grammar.specs.Tables.{empty-table}
 use Rattle.grammar.proofs.TableLaws.{empty-at, empty-none}
 use Rattle.grammar.proofs.may_be_empty.Statement.{statement}

@@ -1,7 +1,7 @@
 -- `fits`: by the tests that the code makes.
 use native.Mathlib.Omega.{arith}
-use Rattle.paper_reading.specs.FormsLaws.{contra}
 use borrow.Author.Needs.{needs}
+use Rattle.paper_expressions.specs.Laws.Tests.{contra}
 use Rattle.leaves.proofs.fits.Statement.{statement}
 use Rattle.leaves.proofs.fits.Tie as tie
 

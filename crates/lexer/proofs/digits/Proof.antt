@@ -4,7 +4,7 @@ use native.Mathlib.Omega.{arith}
 use mathlib.Core.Path.{_≡_, sym, ap, _∙_}
 use borrow.Author.Needs.{needs}
 use lib.ListN.{length, getD}
-use Rattle.paper_reading.specs.Lexical.{part}
+use Rattle.paper_tokens.specs.Lexical.{part}
 use Rattle.lexer.specs.Numerals.{leading}
 use Rattle.lexer.proofs.Numbers.{more-digits, stop-digits, end-digits}
 use Rattle.lexer.proofs.digits.Statement.{statement}

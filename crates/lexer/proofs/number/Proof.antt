@@ -5,7 +5,7 @@ use mathlib.Core.Path.{_≡_, sym, ap, _∙_}
 use borrow.Author.Needs.{needs}
 use lib.Dec.{eqb}
 use lib.ListN.{getD}
-use Rattle.paper_reading.specs.Lexical.{part}
+use Rattle.paper_tokens.specs.Lexical.{part}
 use Rattle.lexer.specs.Numerals.{signOf, minusOf, wholeOf, fractionOf}
 use Rattle.lexer.proofs.Numbers.{first-byte, sign-is, minus-is, whole-is, fraction-is}
 use Rattle.lexer.proofs.number.Statement.{statement}

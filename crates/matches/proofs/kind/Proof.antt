@@ -4,7 +4,7 @@ use mathlib.Core.List.{List, [], _∷_}
 use mathlib.Core.Logic.{⊎-elim}
 use Prim.Native.Nat.{ℕ}
 use native.Mathlib.Omega.{arith}
-use Rattle.paper_reading.specs.Kinds.{kindOf}
+use Rattle.paper_tokens.specs.Kinds.{kindOf}
 use Rattle.matches.specs.Kinds.{fineOf}
 use Rattle.matches.proofs.Law.{law}
 use Rattle.matches.proofs.kind.Statement.{statement}

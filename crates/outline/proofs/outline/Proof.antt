@@ -6,9 +6,9 @@ use native.Mathlib.Omega.{arith}
 use borrow.Author.Tests.{not-true, not-false}
 use lib.ListN.{length, getD}
 use borrow.Author.Needs.{needs}
-use Rattle.paper_reading.specs.LlLaws.{contra}
-use Rattle.paper_reading.specs.Lexical.{Token}
-use Rattle.paper_reading.specs.Structure.{TopLevel}
+use Rattle.paper_expressions.specs.Laws.Tests.{contra}
+use Rattle.paper_tokens.specs.Lexical.{Token}
+use Rattle.paper_guideline.specs.Structure.{TopLevel}
 use Rattle.leaves.specs.Source.{source}
 use Rattle.outline.specs.Rows.{flatten}
 use Rattle.outline.specs.Made.{Given}

@@ -1,6 +1,6 @@
 -- `step`: by the mode.
 use mathlib.Core.Path.{sym, ap, _∙_}
-use Rattle.paper_reading.specs.LlLaws.{contra}
+use Rattle.paper_expressions.specs.Laws.Tests.{contra}
 use Rattle.outline.specs.Made.{mode-of}
 use Rattle.outline.specs.TurnLaws.{same-mode, too-far, behind-mode}
 use borrow.Author.Needs.{needs}

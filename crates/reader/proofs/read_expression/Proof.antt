@@ -4,7 +4,7 @@ use Prim.Native.Nat.{ℕ, _-_}
 use native.Mathlib.Omega.{arith}
 use lib.ListN.{length-replicate}
 use borrow.Author.Tests.{not-false, not-true}
-use Rattle.paper_reading.specs.FormsLaws.{contra}
+use Rattle.paper_expressions.specs.Laws.Tests.{contra}
 use Rattle.reader.specs.Store.{rows-read, rows-used, whole-held}
 use borrow.Author.Needs.{needs}
 use Rattle.reader.proofs.read_expression.Statement.{statement}

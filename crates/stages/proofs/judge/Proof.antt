@@ -1,6 +1,6 @@
 -- `judge`: the tests in their order.
 use mathlib.Core.Path.{subst}
-use Rattle.paper_reading.specs.LeftOut.{LeftOut}
+use Rattle.paper_guideline.specs.LeftOut.{LeftOut}
 use Rattle.leaves.specs.Source.{source}
 use Rattle.token_tests.specs.Reply.{First}
 use Rattle.stages.specs.Judged.{Sentences}

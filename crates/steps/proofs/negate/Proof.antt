@@ -4,7 +4,7 @@ use mathlib.Core.Bool.{true}
 use Prim.Native.Nat.{_+_, _-_, _≤_}
 use native.Mathlib.Omega.{arith}
 use borrow.Author.Tests.{not-false, not-true}
-use Rattle.paper_reading.specs.FormsLaws.{contra}
+use Rattle.paper_expressions.specs.Laws.Tests.{contra}
 use Rattle.steps.specs.StepLaws.{Negated, negated-none, negated-room, negated-more, negated-done}
 use borrow.Author.Needs.{needs}
 use Rattle.steps.proofs.negate.Statement.{statement}

@@ -2,7 +2,7 @@
 use mathlib.Core.Path.{sym, _∙_}
 use native.Mathlib.Omega.{arith}
 use borrow.Author.Tests.{not-true, not-false}
-use Rattle.paper_reading.specs.FormsLaws.{contra}
+use Rattle.paper_expressions.specs.Laws.Tests.{contra}
 use Rattle.texts.specs.Laws.{name-inside, name-is, span-short}
 use borrow.Author.Needs.{needs}
 use Rattle.texts.proofs.name_at.Statement.{statement}

@@ -5,7 +5,7 @@ use Prim.Native.Nat.{ℕ, _-_, _≤_, _<_}
 use native.Mathlib.Omega.{arith}
 use lib.ListN.{length}
 use borrow.Author.Count.{below-none, below-more}
-use Rattle.paper_reading.specs.LeftOut.{LeftOut}
+use Rattle.paper_guideline.specs.LeftOut.{LeftOut}
 use Rattle.leaves.specs.Source.{source}
 use Rattle.token_tests.specs.declared.Found.the-variants.{At}
 use Rattle.token_tests.specs.Reply.{First}

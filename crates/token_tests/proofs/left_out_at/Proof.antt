@@ -2,7 +2,7 @@
 use mathlib.Core.Path.{_≡_, sym, _∙_}
 use Prim.Native.Nat.{_+_}
 use lib.ListN.{getD}
-use Rattle.paper_reading.specs.FormsLaws.{contra}
+use Rattle.paper_expressions.specs.Laws.Tests.{contra}
 use Rattle.parts.specs.Texts.{cells}
 use Rattle.leaves.specs.Source.{source}
 use Rattle.token_tests.specs.Walk.{of-inside, of-outside}

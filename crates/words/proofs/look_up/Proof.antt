@@ -7,8 +7,8 @@ use borrow.Author.Needs.{needs}
 use borrow.Author.Count.{below-none, below-more}
 use lib.ListN.{length, getD}
 use Rattle.paper_expressions.specs.Bytes.{bytes}
-use Rattle.paper_reading.specs.Words.{reserved, yes-or-no, data-types}
-use Rattle.paper_reading.specs.Lexical.{part}
+use Rattle.paper_tokens.specs.Words.{reserved, yes-or-no, data-types}
+use Rattle.paper_tokens.specs.Lexical.{part}
 use Rattle.words.specs.Entries.{strings, packed, table, Found}
 use Rattle.words.proofs.Table.{From, from-start, fits, size-is, string-is, from-next, table-length}
 use Rattle.words.proofs.look_up.Statement.{statement}

@@ -7,9 +7,9 @@ use mathlib.Core.List.{List}
 use borrow.Author.Needs.{needs}
 use borrow.Author.Count.{below-none, below-more}
 use lib.ListN.{length, getD}
+use Rattle.paper_expressions.specs.Laws.Tests.{contra}
 use Rattle.paper_expressions.specs.Bytes.{bytes}
-use Rattle.paper_reading.specs.Words.{reserved, yes-or-no, data-types}
-use Rattle.paper_reading.specs.FormsLaws.{contra}
+use Rattle.paper_tokens.specs.Words.{reserved, yes-or-no, data-types}
 use Rattle.words.specs.Entries.{strings, packed, table}
 use Rattle.words.proofs.Table.{part-at, parts-same, table-length}
 use Rattle.words.proofs.same.Statement.{statement}

@@ -3,8 +3,8 @@ use Prim.Native.Nat.{ℕ}
 use mathlib.Core.Path.{_≡_, sym, ap, subst, _∙_}
 use lib.ListN.{length}
 use borrow.Author.Needs.{needs}
-use Rattle.paper_reading.specs.FormsLaws.{contra}
-use Rattle.paper_reading.specs.Lexical.{part}
+use Rattle.paper_expressions.specs.Laws.Tests.{contra}
+use Rattle.paper_tokens.specs.Lexical.{part}
 use Rattle.words.specs.Entries.{table, Same}
 use Rattle.words.proofs.Table.{part-length}
 use Rattle.words.proofs.stands.Statement.{statement}

@@ -1,7 +1,7 @@
 -- `is_in`: by the variant of the operand; only a text names a task.
 use mathlib.Core.Path.{sym, _∙_}
 use borrow.Author.Needs.{needs}
-use Rattle.paper_expressions.specs.Search.{no-clash}
+use Rattle.paper_expressions.specs.Laws.Search.{no-clash}
 use Rattle.apply.specs.IsIn.{asked-text, asked-other}
 use Rattle.apply.proofs.states.is_in.Statement.{statement}
 use Rattle.apply.proofs.states.is_in.Tie as tie

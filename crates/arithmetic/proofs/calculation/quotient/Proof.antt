@@ -2,7 +2,7 @@
 use mathlib.Core.Path.{_≡_, sym, ap, _∙_}
 use mathlib.Core.Bool.{false}
 use lib.IntN.{ℤ}
-use Rattle.paper_expressions.specs.Only.{zeroZ}
+use Rattle.paper_expressions.specs.Laws.Only.{zeroZ}
 use Rattle.paper_expressions.specs.Operators.{cut}
 use Rattle.values.specs.Meaning.{realOf}
 use borrow.Author.Needs.{needs}

@@ -6,7 +6,7 @@ use lib.ListN.{getD, length}
 use borrow.Author.Count.{below-none, below-more}
 use borrow.Author.Tests.{not-false}
 use borrow.Author.Needs.{needs}
-use Rattle.paper_expressions.specs.Search.{no-clash}
+use Rattle.paper_expressions.specs.Laws.Search.{no-clash}
 use Rattle.evaluator.specs.Columns.{Spelt}
 use Rattle.evaluator.specs.Texts.{all-spelt}
 use Rattle.evaluator.proofs.texts.all_inside.Statement.{statement}

@@ -1,5 +1,5 @@
 -- `inside`: a handle beyond the bytes is neither an atom's nor a string's.
-use Rattle.paper_expressions.specs.Search.{no-clash}
+use Rattle.paper_expressions.specs.Laws.Search.{no-clash}
 use Rattle.evaluator.specs.Texts.{spelt-other}
 use borrow.Author.Needs.{needs}
 use Rattle.evaluator.proofs.texts.inside.Statement.{statement}

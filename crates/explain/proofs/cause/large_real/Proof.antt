@@ -6,9 +6,9 @@ use mathlib.Core.List.{List}
 use lib.IntN.{natAbs}
 use lib.ListN.{getD}
 use denote.Ref.{now}
+use Rattle.paper_expressions.specs.Laws.Tests.{contra}
 use Rattle.paper_expressions.specs.Limits.{real-limit}
-use Rattle.paper_reading.specs.Literals.{thousandths}
-use Rattle.paper_reading.specs.FormsLaws.{contra}
+use Rattle.paper_tokens.specs.Literals.{thousandths}
 use Rattle.parts.specs.Texts.{cells}
 use Rattle.leaves.specs.Cells.{cells-more}
 use Rattle.explain.specs.Cause.{real-past, negative-past}

@@ -5,8 +5,8 @@ use mathlib.Core.Path.{_≡_, subst, _∙_}
 use mathlib.Core.List.{List}
 use lib.ListN.{length, length-replicate, length-set}
 use denote.Ref.{now}
-use Rattle.paper_reading.specs.Nonterminals.{⟨process⟩}
-use Rattle.paper_reading.specs.Guideline.{Begins}
+use Rattle.paper_grammar.specs.Nonterminals.{⟨process⟩}
+use Rattle.paper_grammar.specs.Sentence.{Begins}
 use Rattle.explain.specs.Offer.{Tells, put-last}
 use borrow.Author.Needs.{needs}
 use Rattle.explain.proofs.offer.may_stand.Statement.{statement}

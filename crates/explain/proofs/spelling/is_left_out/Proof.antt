@@ -1,5 +1,5 @@
 -- `is_left_out` reads a flag of the table, which is computed from the words left out.
-use Rattle.paper_reading.specs.LeftOut.{left-out-words}
+use Rattle.paper_guideline.specs.LeftOut.{left-out-words}
 use Rattle.explain.specs.Spelling.{left-out-table, left-out-is, left-out-past}
 use borrow.Author.Needs.{needs}
 use Rattle.explain.proofs.spelling.is_left_out.Statement.{statement}

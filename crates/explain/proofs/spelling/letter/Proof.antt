@@ -2,7 +2,7 @@
 use native.Mathlib.Omega.{arith}
 use mathlib.Core.Path.{_≡_, sym, subst}
 use Prim.Native.Nat.{ℕ, _≤_}
-use Rattle.paper_reading.specs.Words.{reserved}
+use Rattle.paper_tokens.specs.Words.{reserved}
 use Rattle.explain.specs.Spelling.{others, spellings, spellings-table, letter-is, index-fits, letter-none}
 use borrow.Author.Needs.{needs}
 use Rattle.explain.proofs.spelling.letter.Statement.{statement}

@@ -1,5 +1,5 @@
 -- `size` reads the first byte of a cell: the table is the spellings, by one computed equality.
-use Rattle.paper_reading.specs.Words.{reserved}
+use Rattle.paper_tokens.specs.Words.{reserved}
 use Rattle.explain.specs.Spelling.{others, spellings, spellings-table, size-is, size-past}
 use borrow.Author.Needs.{needs}
 use Rattle.explain.proofs.spelling.size.Statement.{statement}

@@ -1,7 +1,7 @@
 -- `calls`: by the tests that the code makes.
 use mathlib.Core.Path.{sym, _∙_}
 use native.Mathlib.Omega.{arith}
-use Rattle.paper_reading.specs.FormsLaws.{contra}
+use Rattle.paper_expressions.specs.Laws.Tests.{contra}
 use Rattle.steps.specs.Levels.{kind-inside}
 use borrow.Author.Needs.{needs}
 use Rattle.measure.proofs.single.calls.Statement.{statement}

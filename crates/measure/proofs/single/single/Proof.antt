@@ -1,7 +1,7 @@
 -- `single`: by the terminals that a token alone can have.
 use mathlib.Core.Path.{sym, _∙_}
 use native.Mathlib.Omega.{arith}
-use Rattle.paper_reading.specs.FormsLaws.{contra}
+use Rattle.paper_expressions.specs.Laws.Tests.{contra}
 use Rattle.steps.specs.Levels.{kind-inside}
 use Rattle.measure.specs.Laws.{single-kind, single-done}
 use borrow.Author.Needs.{needs}

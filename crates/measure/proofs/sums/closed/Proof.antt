@@ -1,7 +1,7 @@
 -- `closed`: the measures of the elements, and one part more.
 use mathlib.Core.Path.{refl, sym, _∙_}
 use native.Mathlib.Omega.{arith}
-use Rattle.paper_reading.specs.FormsLaws.{contra}
+use Rattle.paper_expressions.specs.Laws.Tests.{contra}
 use Rattle.steps.specs.Levels.{stand-length}
 use Rattle.measure.specs.Laws.{closed-done}
 use borrow.Author.Needs.{needs}

@@ -1,7 +1,7 @@
 -- `spelt`: a token's bytes stand in the text, and its name inside its quotes.
 use mathlib.Core.Path.{sym, _∙_}
 use native.Mathlib.Omega.{arith}
-use Rattle.paper_reading.specs.LlLaws.{contra}
+use Rattle.paper_expressions.specs.Laws.Tests.{contra}
 use Rattle.outline.specs.Flags.{spelt-there}
 use borrow.Author.Needs.{needs}
 use Rattle.outline.proofs.flags.spelt.Statement.{statement}

@@ -2,7 +2,7 @@
 use mathlib.Core.Path.{refl, sym, _∙_}
 use native.Mathlib.Omega.{arith}
 use borrow.Author.Tests.{not-true, not-false}
-use Rattle.paper_reading.specs.LlLaws.{contra}
+use Rattle.paper_expressions.specs.Laws.Tests.{contra}
 use Rattle.outline.specs.TableLaws.{put-eight}
 use borrow.Author.Needs.{needs}
 use Rattle.outline.proofs.table.put.Statement.{statement}

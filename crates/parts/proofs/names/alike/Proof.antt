@@ -3,7 +3,7 @@ use mathlib.Core.Path.{_≡_, sym, ap, _∙_}
 use Prim.Native.Nat.{_+_, _/_, _≤_}
 use native.Mathlib.Omega.{arith}
 use borrow.Author.Needs.{needs}
-use Rattle.paper_expressions.specs.Search.{alikeb}
+use Rattle.paper_expressions.specs.Laws.Search.{alikeb}
 use Rattle.parts.specs.Texts.{cells, textAt}
 use Rattle.parts.specs.Items.{alike-step, alike-stop, alike-end, alike-long}
 use Rattle.parts.proofs.names.alike.Statement.{statement}

@@ -6,7 +6,7 @@ use native.Mathlib.Omega.{arith}
 use lib.ListN.{length, getD}
 use borrow.Author.Count.{below-more}
 use borrow.Author.Needs.{needs}
-use Rattle.paper_expressions.specs.Search.{alikeb}
+use Rattle.paper_expressions.specs.Laws.Search.{alikeb}
 use Rattle.parts.specs.Texts.{textAt}
 use Rattle.parts.proofs.names.find.Statement.{statement}
 use Rattle.parts.proofs.names.find.Tie as tie

@@ -1,6 +1,6 @@
 -- `head_at`: the token's bytes are in the text, and say what they say.
 use mathlib.Core.Path.{sym, _∙_}
-use Rattle.paper_reading.specs.FormsLaws.{contra}
+use Rattle.paper_expressions.specs.Laws.Tests.{contra}
 use Rattle.reader.specs.Laws.{said-head, token-fits}
 use borrow.Author.Needs.{needs}
 use Rattle.reader.proofs.single.head_at.Statement.{statement}

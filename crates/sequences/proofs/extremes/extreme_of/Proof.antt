@@ -4,7 +4,7 @@ use mathlib.Core.Path.{_≡_, sym, _∙_}
 use mathlib.Core.Bool.{true, false}
 use native.Mathlib.Omega.{arith}
 use borrow.Author.Count.{below-none, below-more}
-use Rattle.paper_expressions.specs.Only.{bestb}
+use Rattle.paper_expressions.specs.Laws.Only.{bestb}
 use Rattle.values.specs.Meaning.{meaningL, sizeOf}
 use Rattle.operators.specs.Means.{end}
 use Rattle.sequences.proofs.Elements.{first-best, no-best}

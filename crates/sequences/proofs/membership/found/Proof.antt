@@ -6,7 +6,7 @@ use native.Mathlib.Omega.{arith}
 use borrow.Author.Count.{below-none, below-more}
 use lib.ListN.{getD, length}
 use Rattle.paper_expressions.specs.Values.{unknown}
-use Rattle.paper_expressions.specs.Only.{missb}
+use Rattle.paper_expressions.specs.Laws.Only.{missb}
 use Rattle.values.specs.Meaning.{meaningL, meaningV, sizeOf}
 use Rattle.values.proofs.Lists.{size-is}
 use Rattle.sequences.proofs.Scans.{all-hold, one-fails}

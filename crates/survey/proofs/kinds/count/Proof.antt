@@ -5,7 +5,7 @@ use mathlib.Core.List.{List}
 use native.Mathlib.Omega.{arith}
 use lib.ListN.{length, getD}
 use Rattle.paper_expressions.specs.View.{At}
-use Rattle.paper_reading.specs.Limits.{token-limit}
+use Rattle.paper_guideline.specs.Limits.{token-limit}
 use Rattle.outline.specs.Rows.{Row, kind-of}
 use Rattle.survey.specs.LoopLaws.{Left, left-begin, left-next, left-end}
 use Rattle.survey.proofs.kinds.count.Statement.{statement}

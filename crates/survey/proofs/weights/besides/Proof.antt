@@ -2,7 +2,7 @@
 use mathlib.Core.Path.{refl, sym, _∙_}
 use native.Mathlib.Omega.{arith}
 use borrow.Author.Tests.{not-true}
-use Rattle.paper_reading.specs.LlLaws.{contra}
+use Rattle.paper_expressions.specs.Laws.Tests.{contra}
 use Rattle.outline.specs.Rows.{expression-of}
 use Rattle.survey.specs.LoopLaws.{no-expression, has-one, with-large, with-small}
 use borrow.Author.Needs.{needs}

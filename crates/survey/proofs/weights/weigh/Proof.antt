@@ -6,8 +6,8 @@ use native.Mathlib.Omega.{arith}
 use borrow.Author.Tests.{not-true, not-false}
 use lib.ListN.{length}
 use borrow.Author.Needs.{needs}
-use Rattle.paper_reading.specs.LlLaws.{contra}
-use Rattle.paper_reading.specs.Limits.{token-limit}
+use Rattle.paper_expressions.specs.Laws.Tests.{contra}
+use Rattle.paper_guideline.specs.Limits.{token-limit}
 use Rattle.leaves.specs.Source.{Source}
 use Rattle.outline.specs.Rows.{Row}
 use Rattle.outline.specs.Made.{Outline}

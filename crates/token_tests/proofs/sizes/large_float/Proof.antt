@@ -4,7 +4,7 @@ use native.Mathlib.Omega.{arith}
 use lib.Dec.{ltb}
 use borrow.Author.Tests.{lt-ltb, le-ltb}
 use Rattle.paper_expressions.specs.Limits.{real-limit}
-use Rattle.paper_reading.specs.Limits.{decimal-limit}
+use Rattle.paper_guideline.specs.Limits.{decimal-limit}
 use Rattle.parts.specs.Texts.{cells}
 use Rattle.leaves.specs.Numbers as N
 use Rattle.token_tests.specs.LimitTest.{unsigned}

@@ -4,7 +4,7 @@ use Prim.Native.Nat.{_≤_, _<_, _-_}
 use native.Mathlib.Omega.{arith}
 use lib.ListN.{drop, length}
 use Rattle.paper_expressions.specs.Limits.{list-limit}
-use Rattle.paper_reading.specs.Line.{more-written}
+use Rattle.paper_guideline.specs.Line.{more-written}
 use Rattle.values.specs.Meaning.{meaningL, sizeOf}
 use Rattle.digits.specs.Appends.{Begun, begun-none, begun-more, begun-all}
 use Rattle.written.specs.Lists.{more-step, more-end}

@@ -1,7 +1,7 @@
 -- `value`: a list, or one scalar.
 use mathlib.Core.Path.{ap}
 use mathlib.Core.Bool.{Bool}
-use Rattle.paper_reading.specs.Line.{value-written}
+use Rattle.paper_guideline.specs.Line.{value-written}
 use Rattle.values.specs.Meaning.{valued, meaning, meaningL}
 use Rattle.digits.specs.Appends.{appends-as}
 use borrow.Author.Needs.{needs}

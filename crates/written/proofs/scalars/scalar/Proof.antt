@@ -2,7 +2,7 @@
 use mathlib.Core.Path.{_≡_, ap}
 use mathlib.Core.List.{List}
 use Prim.Native.Nat.{ℕ}
-use Rattle.paper_reading.specs.Line.{scalar-written}
+use Rattle.paper_guideline.specs.Line.{scalar-written}
 use Rattle.values.specs.Meaning.{meaning}
 use Rattle.values.specs.declared.scalar.Scalar.{Scalar}
 use Rattle.digits.specs.Appends.{Appends, appends-as}

@@ -2,7 +2,7 @@
 use mathlib.Core.Path.{ap}
 use mathlib.Core.Bool.{Bool}
 use Rattle.paper_expressions.specs.Values as paper
-use Rattle.paper_reading.specs.Line.{scalar-written}
+use Rattle.paper_guideline.specs.Line.{scalar-written}
 use Rattle.digits.specs.Appends.{appends-as}
 use borrow.Author.Needs.{needs}
 use Rattle.written.proofs.scalars.truth.Statement.{statement}

@@ -1,0 +1,14 @@
+pub mod Search
+pub mod Resolve
+pub mod Tests
+pub mod Compare
+pub mod Only
+pub mod Finds
+pub mod Typing
+pub mod Functors
+pub mod Promise
+pub mod WithinLimits
+pub mod Minimum
+pub mod Parentheses
+pub mod Soundness
+pub mod Sheet

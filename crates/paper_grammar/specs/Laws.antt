@@ -1,0 +1,13 @@
+pub mod ReservedLaws
+pub mod GrammarLaws
+pub mod Ll
+pub mod LlLaws
+pub mod Tagged
+pub mod Forward
+pub mod Backward
+pub mod Form
+pub mod Follow
+pub mod Meanings
+pub mod Images
+pub mod Same
+pub mod Rows

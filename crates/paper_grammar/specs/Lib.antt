@@ -1,0 +1,5 @@
+pub mod Nonterminals
+pub mod Cfg
+pub mod Grammar
+pub mod Sentence
+pub mod Laws

@@ -1,0 +1,10 @@
+pub mod RefusalLaws
+pub mod MeasureRows
+pub mod WrittenRows
+pub mod NameRows
+pub mod PartRows
+pub mod TreeLaws
+pub mod SentenceLaws
+pub mod StructureLaws
+pub mod CompleteLaws
+pub mod LineLaws

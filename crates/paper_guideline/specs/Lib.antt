@@ -1,0 +1,9 @@
+pub mod Tree
+pub mod LeftOut
+pub mod Structure
+pub mod Parts
+pub mod Limits
+pub mod Names
+pub mod Refusals
+pub mod Line
+pub mod Laws

@@ -1,0 +1,6 @@
+pub mod WordsLaws
+pub mod FormsLaws
+pub mod LexicalLaws
+pub mod LexicalTwin
+pub mod LexicalRows
+pub mod TerminalLaws
