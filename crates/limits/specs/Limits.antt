@@ -1,4 +1,4 @@
--- The limits of running (document 01, How much fits), each named once; those of reading and of values are in paper_reading and paper_expressions. Definitions only.
+-- The limits of running (document 01, How much fits), each named once; those of reading and of values are in paper_guideline and paper_expressions. Definitions only.
 use Prim.Native.Nat.{ℕ}
 
 -- "cycles in one run 0 to 256"
