@@ -5,9 +5,9 @@ use std::io::{self, BufWriter, Read, Write};
 use std::process::ExitCode;
 
 use second::generate::{guidelines, lines, texts};
-use second::{batch, examine, sheet};
+use second::{batch, examine, replay, sheet};
 
-const USAGE: &str = "usage: second sheet | examine | examine-many | tokens-many
+const USAGE: &str = "usage: second sheet | examine | examine-many | tokens-many | replay
        second lines SEED COUNT | guidelines SEED COUNT | texts SEED COUNT";
 
 fn main() -> ExitCode {
@@ -32,6 +32,11 @@ fn run(words: &[&str], out: &mut impl Write) -> Result<(), Problem> {
         ["examine"] => writeln!(out, "{}", examine::examine(&input()?))?,
         ["examine-many"] => each_text(out, examine::examine)?,
         ["tokens-many"] => each_text(out, examine::tokens)?,
+        ["replay"] => {
+            for script in batch::texts(&input()?)? {
+                out.write_all(replay::answers(script)?.as_bytes())?;
+            }
+        }
         ["lines", seed, count] => {
             for line in lines::lines(seed.parse()?, count.parse()?) {
                 out.write_all(&line)?;
