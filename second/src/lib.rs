@@ -9,7 +9,8 @@
 //!
 //! Running: `loading` puts the guideline into the `tables`, `engine` has the
 //! public operations, `operations` and `conditions` what they are made of.
-//! `calls` judges the refusals of a call, `replay` answers a `script` of calls.
+//! `calls` judges the refusals of a call, `replay` answers a `script` of calls,
+//! `transcript` tells it for people.
 
 pub mod batch;
 pub mod calls;
@@ -43,6 +44,7 @@ pub mod script;
 pub mod sheet;
 pub mod tables;
 pub mod token;
+pub mod transcript;
 pub mod tree;
 pub mod types;
 pub mod value;
