@@ -13,12 +13,17 @@ use crate::script::{calls, line, Call, Malformed};
 use crate::tables::{Changes, RowValue};
 use crate::value::Value;
 
-/// What the calls of a script do to a guideline that is loaded before them.
+/// What the calls of a script do to a guideline. It is loaded before them,
+/// unless the script begins by loading it.
 pub fn transcript(guideline: &[u8], script: &[u8]) -> Result<String, Malformed> {
     let mut session = Session::default();
     let mut told = String::new();
+    let mut calls = calls(script)?;
     let load = Call::Load(guideline.to_vec());
-    for call in [load].iter().chain(&calls(script)?) {
+    if calls.first() != Some(&load) {
+        calls.insert(0, load);
+    }
+    for call in &calls {
         writeln!(told, "> {}", line(call)).expect(WRITTEN);
         told.push_str(&call_told(&mut session, call));
     }
