@@ -48,7 +48,7 @@ impl Loading<'_> {
     }
 
     /// 12.3, The Operation InstantiateComponent(G,C,A). The class is asked for
-    /// whenever it comes into the table (rulings, 8.1).
+    /// whenever it comes into the table (docs/DECISIONS.md, Rows).
     fn instantiate_component(&mut self, number: usize) {
         let is_action = self.guideline.tasks[number].class == TaskClass::Action;
         self.add(Component::task(number), Property::Confirmatory, RowValue::truth(is_action));

@@ -94,7 +94,7 @@ fn add_constraints(plan: &mut Owner, random: &mut Random) {
 
 /// How often, out of a hundred, the root and the other tasks have a condition.
 const CONDITIONS: [(&str, usize, usize); 3] =
-    [("precondition", 12, 25), ("wait_condition", 4, 12), ("terminate", 8, 8)];
+    [("precondition", 12, 25), ("wait_condition", 4, 12), ("terminate", 12, 15)];
 
 fn add_attributes(sketch: &mut Sketch, task: usize, random: &mut Random) {
     let (word, is_root) = (sketch.tasks[task].word, task == 0);

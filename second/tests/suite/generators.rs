@@ -7,6 +7,7 @@ use second::generate::guidelines::guidelines;
 use second::generate::lines::lines;
 use second::generate::scripts::scripts;
 use second::generate::texts::texts;
+use second::given::Given;
 use second::replay::answers;
 use second::script::{calls, Call};
 use second::sheet::answer;
@@ -114,6 +115,36 @@ fn scripts_are_a_mix() {
     let exceptions: usize =
         all.iter().map(|script| answers(script).expect("it has the form").matches("exception").count()).sum();
     assert_eq!(exceptions, figures.exceptions);
+}
+
+/// Whether a value is one that a script may give.
+fn has_the_form(value: &Given) -> bool {
+    match value {
+        Given::Unknown | Given::Truth(_) => true,
+        Given::Integer(integer) => integer.abs() < 1 << 31,
+        Given::Real(thousandths) => thousandths.abs() < 1 << 62,
+        Given::Text(text) => text.len() <= 64,
+        Given::List(elements) => {
+            let is_element = |value: &Given| !matches!(value, Given::List(_)) && has_the_form(value);
+            elements.len() <= 20 && elements.iter().all(is_element)
+        }
+    }
+}
+
+#[test]
+fn scripts_have_the_form() {
+    let largest = (1 << 32) - 1;
+    for call in scripts(3, 500).flat_map(|script| calls(&script).expect("it has the form")) {
+        let fits = match &call {
+            Call::Run { bound, lent } => *bound < 1 << 63 && *lent <= 8_192,
+            Call::Time(seconds) => *seconds < 1 << 63,
+            Call::Confirm(task) => *task <= largest,
+            Call::Add(item, value) => *item <= largest && has_the_form(value),
+            Call::Row(kind, component, property) => *kind.max(component).max(property) <= largest,
+            Call::Load(_) | Call::Trigger(_) | Call::Rows => true,
+        };
+        assert!(fits, "{call:?}");
+    }
 }
 
 /// What the calls of the scripts have to try.

@@ -289,6 +289,60 @@ fn terminate_goes_down_the_tree() {
     answers(text, &calls, &[&first[..], &["quiet 1", "completed", "discarded", "discarded"]].concat());
 }
 
+/// Start is asked before Discard: c starts in the very cycle in which its plan
+/// is discarded, and goes on without it.
+#[test]
+fn a_task_may_start_while_its_plan_is_discarded() {
+    let text = "plan::root;terminate::x=1;component::p;end plan.plan::p;component::c;component::d;end plan.\
+        action::c;wait_condition::x=1;end action.action::d;end action.data::x;type::integer;end data.";
+    let reads = "row 0 0 6\nrow 0 1 6\nrow 0 2 6\nrow 0 3 6\n";
+    let calls = format!(
+        "run 256 1024\nadd 0 i1\nrun 1 1024\n{reads}run 256 1024\n{reads}confirm 2\nrun 9 1024\n{reads}"
+    );
+    let first = ["quiet 3", "done", "bounded 1", "in_progress", "discarded", "in_progress", "discarded"];
+    let second = ["quiet 1", "completed", "discarded", "in_progress", "discarded"];
+    let third = ["done", "quiet 1", "completed", "discarded", "completed", "discarded"];
+    answers(text, &calls, &[&first[..], &second, &third].concat());
+}
+
+/// A task with a trigger is discarded for its precondition before one comes;
+/// a trigger does not bring it back.
+#[test]
+fn a_precondition_discards_before_the_trigger() {
+    let text = "plan::root;component::a;component::b;end plan.\
+        action::a;trigger::rain;precondition::1=2;end action.action::b;end action.";
+    let calls = "run 256 1024\nrow 0 1 6\ntrigger 7261696e\nrow 0 1 12\nrun 256 1024\nrow 0 1 6\n";
+    answers(text, calls, &["quiet 2", "discarded", "done", "b1", "quiet 0", "discarded"]);
+}
+
+/// A terminal task keeps its trigger and is not initialised: its plan ends.
+#[test]
+fn a_triggered_terminal_task_ends_its_plan() {
+    let text = TRIGGERED.replace("component::a;", "component::a;terminal::yes;");
+    let calls =
+        "run 256 1024\ntrigger 7261696e\nrun 256 1024\nconfirm 1\nrun 256 1024\nrow 0 0 6\nrow 0 1 6\n\
+                 row 0 1 12\nrow 0 2 6\n";
+    let expected =
+        ["quiet 2", "done", "quiet 1", "done", "quiet 3", "completed", "completed", "b1", "discarded"];
+    answers(&text, calls, &expected);
+}
+
+/// A plan that is triggered a second time initialises all that is below it.
+#[test]
+fn a_triggered_plan_begins_anew() {
+    let text = "plan::root;component::p;component::b;end plan.plan::p;trigger::go;component::q;end plan.\
+        enquiry::q;postcondition::x=if(isknown(x),1,x+1);end enquiry.action::b;end action.\
+        data::x;type::integer;end data.";
+    let reads = "row 0 1 6\nrow 0 2 6\nrow 0 2 18\nrow 1 0 42\n";
+    let calls = format!(
+        "run 256 1024\ntrigger 676f\nrun 4 1024\n{reads}run 256 1024\n{reads}trigger 676f\nrun 256 1024\n{reads}"
+    );
+    let first = ["quiet 2", "done", "bounded 4", "completed", "completed", "i1", "i1"];
+    let second = ["quiet 1", "dormant", "dormant", "i0", "i1"];
+    let third = ["done", "quiet 5", "dormant", "dormant", "i0", "i2"];
+    answers(text, &calls, &[&first[..], &second, &third].concat());
+}
+
 /// Only components have a name row: `root` finds no task.
 #[test]
 fn the_root_is_not_found_by_name() {
