@@ -228,7 +228,7 @@ impl Sketch {
 }
 
 /// A name that no other definition of its kind has, folded or not; now and
-/// then the first after the root's is the empty one.
+/// then the second one is empty.
 pub fn new_name(number: usize, random: &mut Random) -> String {
     match number == 1 && random.chance(8) {
         true => String::new(),

@@ -3,7 +3,7 @@
 //! (start times, optional, abort_condition) are tried too.
 
 use crate::hand::{family, Hand, A, B, C, P, ROOT, WAITS};
-use second::component::{Component, Property};
+use second::component::{Class, Component, Property};
 use second::guideline::TaskState::{Completed, Discarded, Dormant, InProgress};
 use second::tables::RowValue;
 
@@ -260,6 +260,10 @@ fn complete_5_is_asked_of_a_plan_s_own_components() {
     assert!(empty.complete(0), "a plan without components");
     let over = family("", "", "", "").state(ROOT, InProgress).state(P, Completed);
     assert!(over.complete(ROOT), "c, which is dormant, is no component of the root");
+    let plan = running("", "", "");
+    assert!(!plan.complete(P));
+    let no_plan = plan.row(Component::task(P), Property::Class, RowValue::Class(Class::Enquiry));
+    assert!(no_plan.complete(P), "only of a plan");
 }
 
 #[test]

@@ -173,7 +173,7 @@ fn scripts_try_the_limits() {
     {
         assert!(loaded.iter().any(|text| text.contains(words)), "{words} in a guideline");
     }
-    let plans = |text: &String| text.matches("end plan").count().max(text.matches("plan").count() / 2);
-    assert!(loaded.iter().any(|text| plans(text) >= 31), "plans nested to the limit");
+    // A plan says its word twice, and no name has it.
+    assert!(loaded.iter().any(|text| text.matches("plan").count() / 2 >= 31), "plans nested to the limit");
     assert!(loaded.iter().any(|text| text.matches("source").count() >= 128), "as many sources as may be");
 }

@@ -91,12 +91,8 @@ fn the_worked_scripts() {
     assert!(scripts >= 6);
 }
 
-#[test]
-fn a_transcript_tells_each_cycle() {
-    let guideline = b"plan::r;component::a;end plan.action::a;postcondition::x=2 and x=2.0;end action.\
-        data::x;type::real;end data.";
-    let script = b"run 2 1024\nconfirm 1\nrun 256 1024\ntime 1\n";
-    let expected = "\
+/// A task that starts, is confirmed, and collides with itself.
+const TOLD: &str = "\
 > load 108
   loaded
 > run 2 1024
@@ -135,7 +131,13 @@ fn a_transcript_tells_each_cycle() {
 > time 1
   refused 7 0
 ";
-    assert_eq!(transcript(guideline, script), Ok(expected.to_string()));
+
+#[test]
+fn a_transcript_tells_each_cycle() {
+    let guideline = b"plan::r;component::a;end plan.action::a;postcondition::x=2 and x=2.0;end action.\
+        data::x;type::real;end data.";
+    let script = b"run 2 1024\nconfirm 1\nrun 256 1024\ntime 1\n";
+    assert_eq!(transcript(guideline, script), Ok(TOLD.to_string()));
 }
 
 #[test]
