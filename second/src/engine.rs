@@ -1,5 +1,6 @@
 //! 8.1 to 8.4: the state of a guideline, the public operations on it, and
-//! EnactChanges. Refusals are not judged here (`calls` does that).
+//! EnactChanges. Refusals are not judged here (`calls` does that); 8.3.5 is
+//! about decisions, which the first edition leaves out.
 
 use crate::component::{Component, Kind, Property};
 use crate::guideline::{Guideline, TaskState};

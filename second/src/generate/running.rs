@@ -62,6 +62,9 @@ fn frame(tasks: usize, items: usize, random: &mut Random) -> Sketch {
         let word = random.pick(&["plan", "action", "action", "enquiry", "enquiry"]);
         sketch.tasks.push(Owner { word, name: new_name(number, random), attributes: Vec::new() });
     }
+    if random.chance(5) && sketch.tasks.iter().all(|task| !task.name.is_empty()) {
+        sketch.tasks[0].name.clear();
+    }
     sketch
 }
 

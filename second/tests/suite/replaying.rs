@@ -4,6 +4,7 @@ use std::fs;
 use std::path::Path;
 
 use crate::replayed;
+use second::component::Property;
 use second::given::Given;
 use second::replay::answers;
 use second::script::{calls, written, Call};
@@ -52,6 +53,39 @@ fn other_texts_are_no_scripts() {
     }
     assert_eq!(calls(b""), Ok(vec![]));
     assert_eq!(answers(b""), Ok("--\n".to_string()));
+}
+
+/// docs/REPLAY.md ends with this script.
+#[test]
+fn the_example_of_the_document() {
+    let script = b"load 20\nplan :: a; end plan.\nrun 1 1024\nrow 0 0 6\nrun 256 1024\nconfirm 1\n";
+    let expected = "loaded\nbounded 1\nin_progress\nquiet 1\nrefused 8 0\n--\n";
+    assert_eq!(answers(script), Ok(expected.to_string()));
+}
+
+/// The numbers of all properties are those that docs/REPLAY.md lists.
+#[test]
+fn the_document_lists_every_property() {
+    let document = include_str!("../../../docs/REPLAY.md");
+    for property in [
+        Property::Class,
+        Property::State,
+        Property::Confirmed,
+        Property::CycleCount,
+        Property::StartAt,
+        Property::Context,
+        Property::InProgressTime,
+        Property::AbortCondition,
+        Property::Candidates,
+        Property::ActualProcedure,
+        Property::Type,
+        Property::Requested,
+        Property::Recommendation,
+        Property::DataItem,
+        Property::Activated,
+    ] {
+        assert!(document.contains(&format!("| {} | {property} |", property as usize)), "{property}");
+    }
 }
 
 #[test]
