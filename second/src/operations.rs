@@ -8,9 +8,7 @@ use crate::engine::Engine;
 use crate::evaluate::evaluate;
 use crate::expression::Expression;
 use crate::guideline::TaskState;
-use crate::number::Number;
 use crate::tables::{Changes, RowValue};
-use crate::value::Value;
 
 impl Engine {
     /// 8.5.1, The Operation Review(T).
@@ -97,14 +95,6 @@ impl Engine {
             if !self.is_true(item, Property::Requested) {
                 changes.insert((item, Property::Requested, RowValue::TRUE));
             }
-        }
-    }
-
-    /// The integer in a row, if there is one.
-    pub fn integer(&self, task: Component, property: Property) -> Option<i64> {
-        match self.properties.get(task, property)? {
-            RowValue::Value(Value::Number(Number::Integer(integer))) => Some(*integer),
-            _ => None,
         }
     }
 }

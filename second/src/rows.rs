@@ -4,6 +4,7 @@ use crate::component::{Class, Component, Kind, Property};
 use crate::engine::Engine;
 use crate::evaluate::{evaluate, State};
 use crate::guideline::TaskState;
+use crate::number::Number;
 use crate::tables::RowValue;
 use crate::value::Value;
 
@@ -30,6 +31,14 @@ impl Engine {
     pub fn time(&self, task: Component, property: Property) -> Option<u32> {
         match self.properties.get(task, property)? {
             RowValue::Time(time) => Some(*time),
+            _ => None,
+        }
+    }
+
+    /// The integer in a row, if there is one.
+    pub fn integer(&self, task: Component, property: Property) -> Option<i64> {
+        match self.properties.get(task, property)? {
+            RowValue::Value(Value::Number(Number::Integer(integer))) => Some(*integer),
             _ => None,
         }
     }
