@@ -23,6 +23,7 @@ pub mod number;
 mod operators;
 mod parser;
 mod properties;
+mod random;
 pub mod refusal;
 pub mod replay;
 pub mod rows;

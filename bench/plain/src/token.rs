@@ -15,7 +15,7 @@ pub enum Kind {
     /// `single` or `multiple`.
     Choice,
     /// `symbolic` or `numeric`.
-    SupportKind,
+    SupportType,
     /// `for`, `against`, `confirming` or `excluding`.
     Support,
     /// `seconds` to `weeks`.

@@ -35,7 +35,7 @@ impl Parser<'_> {
             Kind::Parameters => self.parameters(),
             Kind::Candidate => self.candidate(),
             Kind::ChoiceMode => self.left_out_word(|parser| parser.expect(Kind::Choice)),
-            Kind::SupportMode => self.left_out_word(|parser| parser.expect(Kind::SupportKind)),
+            Kind::SupportMode => self.left_out_word(|parser| parser.expect(Kind::SupportType)),
             Kind::Context => self.left_out_word(|parser| parser.atom().map(|_| ())),
             _ => self.left_out_expression(),
         }

@@ -65,6 +65,8 @@ impl<'text> Parser<'text> {
 
     /// Whether the token ahead is of this kind; if so, it is passed.
     fn passes(&mut self, kind: Kind) -> bool {
+        // Not `self.at += usize::from(is_ahead)`: rustc 1.95.0 optimises that away
+        // where the answer is branched on (its pass SimplifyComparisonIntegral).
         if self.kind() != kind {
             return false;
         }
