@@ -50,6 +50,7 @@ fn call(line: &str) -> Result<Call<'static>, String> {
         "add" => Call::Add(index(word()?)?, given(word()?)?),
         "trigger" => match word()? {
             "-" => Call::Trigger(Vec::new()),
+            "" => return Err(format!("no call: {line}")),
             trigger => Call::Trigger(bytes(trigger)?),
         },
         "row" => Call::Row(index(word()?)?, index(word()?)?, index(word()?)?),
