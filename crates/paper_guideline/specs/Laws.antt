@@ -1,10 +1,13 @@
+pub mod Places
+pub mod NameTwin
+pub mod FittingTwin
 pub mod RefusalLaws
 pub mod MeasureRows
 pub mod WrittenRows
-pub mod NameRows
 pub mod PartRows
 pub mod TreeLaws
 pub mod SentenceLaws
 pub mod StructureLaws
+pub mod NameRows
 pub mod CompleteLaws
 pub mod LineLaws
