@@ -1,6 +1,7 @@
 pub mod Places
 pub mod NameTwin
 pub mod FittingTwin
+pub mod StageTwin
 pub mod RefusalLaws
 pub mod MeasureRows
 pub mod WrittenRows
@@ -10,4 +11,5 @@ pub mod SentenceLaws
 pub mod StructureLaws
 pub mod NameRows
 pub mod CompleteLaws
+pub mod AnswerLaws
 pub mod LineLaws
