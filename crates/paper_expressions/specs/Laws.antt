@@ -1,5 +1,6 @@
 pub mod Search
 pub mod Resolve
+pub mod ResolveRows
 pub mod Tests
 pub mod Compare
 pub mod Only

@@ -10,6 +10,8 @@ pub mod TreeLaws
 pub mod SentenceLaws
 pub mod StructureLaws
 pub mod NameRows
+pub mod FittingRows
 pub mod CompleteLaws
 pub mod AnswerLaws
+pub mod AnswerRows
 pub mod LineLaws
