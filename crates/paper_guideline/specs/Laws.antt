@@ -11,6 +11,7 @@ pub mod SentenceLaws
 pub mod StructureLaws
 pub mod NameRows
 pub mod FittingRows
+pub mod KeptLaws
 pub mod CompleteLaws
 pub mod AnswerLaws
 pub mod AnswerRows
