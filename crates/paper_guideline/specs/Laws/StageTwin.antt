@@ -30,7 +30,7 @@ use Rattle.paper_guideline.specs.LeftOut.{left-out-words, left-out-funct
 use Rattle.paper_guideline.specs.Structure.{TopLevel, Structure, tasks, data-items}
 use Rattle.paper_guideline.specs.Parts.{Typed, expressions, assignments, sources}
 use Rattle.paper_guideline.specs.Limits
-use Limits.{text-limit, token-limit, bracket-limit, task-limit, data-item-limit, part-limit, depth-limit, assignment-limit, source-limit, decimal-limit, depth, longest-list}
+use Limits.{guideline-limit, token-limit, bracket-limit, task-limit, data-item-limit, part-limit, depth-limit, assignment-limit, source-limit, decimal-limit, depth, longest-list}
 use Rattle.paper_guideline.specs.Refusals
 use Refusals.{text-stage, count-stage, limit-stage, Opening, opens-round, opens-square, Closing, closes-round, closes-square, TooManyOpen, one-too-many, one-more-open, one-fewer-open, as-many-open}
 use Refusals.{TokenBreach, long-name, long-text, large-integer, large-real, long-fraction, total-parts, Read, Breach, high-byte, long, many-tokens, many-open, token-breach, too-deep, long-list}
@@ -85,7 +85,7 @@ high-places p [] = []
 high-places p (b ∷ l) = put (ltb 127 b) p (high-places (suc p) l)
 
 abbrev pub text-places : List ℕ → List ℕ
-text-places text = put (ltb text-limit (length text)) (length text) (high-places 0 text)
+text-places text = put (ltb guideline-limit (length text)) (length text) (high-places 0 text)
 
 high-in : {l : List ℕ} {i b : ℕ} (p : ℕ) → At l i b → 127 < b → List·Memᴰ (p + i) (high-places p l)
 high-in p (at-first {x = b} {l}) h = let e : p + 0 ≡ p = omega arith in subst (λ (q : ℕ). List·Memᴰ q (put (ltb 127 b) p (high-places (suc p) l))) (sym e) (put-here (ltb 127 b) p (high-places (suc p) l) (lt-ltb 127 b h))
@@ -107,14 +107,14 @@ high-out {q} p (b ∷ l) m = ⊎-elim
 
 module _ {Short : Type 0} (text : List ℕ) where
   pub text-in : {p : ℕ} → Breach Short text text-stage p → List·Memᴰ p (text-places text)
-  text-in (high-byte {p} h k) = put-on (ltb text-limit (length text)) (length text) (subst (λ (q : ℕ). List·Memᴰ q (high-places 0 text)) (let e : 0 + p ≡ p = omega arith in e) (high-in 0 h k))
-  text-in (long h) = put-here (ltb text-limit (length text)) (length text) (high-places 0 text) (lt-ltb text-limit (length text) h)
+  text-in (high-byte {p} h k) = put-on (ltb guideline-limit (length text)) (length text) (subst (λ (q : ℕ). List·Memᴰ q (high-places 0 text)) (let e : 0 + p ≡ p = omega arith in e) (high-in 0 h k))
+  text-in (long h) = put-here (ltb guideline-limit (length text)) (length text) (high-places 0 text) (lt-ltb guideline-limit (length text) h)
 
   pub text-if : {p : ℕ} → List·Memᴰ p (text-places text) → Breach Short text text-stage p
   text-if {p} m = ⊎-elim
-      (λ (h : (ltb text-limit (length text) ≡ true) × (p ≡ length text)). subst (Breach Short text text-stage) (sym (h .1)) (long (ltb-true text-limit (length text) (h .0))))
+      (λ (h : (ltb guideline-limit (length text) ≡ true) × (p ≡ length text)). subst (Breach Short text text-stage) (sym (h .1)) (long (ltb-true guideline-limit (length text) (h .0))))
       (λ (n : List·Memᴰ p (high-places 0 text)). let c = high-out 0 text n in high-byte (subst (λ (i : ℕ). At text i (c .b)) (let e = c .there in let f : c .i ≡ p = omega arith in f) (c .at)) (c .high))
-      (put-out (ltb text-limit (length text)) m)
+      (put-out (ltb guideline-limit (length text)) m)
 
 -- ---- 6: tokens and open brackets
 
