@@ -8,4 +8,6 @@ pub mod Operators
 pub mod Expressions
 pub mod Evaluation
 pub mod Calls
+pub mod Within
+pub mod Promises
 pub mod Laws

@@ -1,7 +1,7 @@
 -- Law: the minimum as an expression. Of a typed min(E) that is a number's, the value is the minimum of the readings that E comes to: one of them, none known below it, and unknown only if none is known. By the law on lists, and the types of E.
 use mathlib.Core.List.{List, [], _∷_}
 use Prim.Native.Nat.{ℕ}
-use Rattle.paper_expressions.specs.Values.{Scalar, unknown, Value, one, sequence, IsUnknown, is-unknown, integer-is, real-is}
+use Rattle.paper_expressions.specs.Values.{Scalar, unknown, Value, one, is-unknown, integer-is, real-is}
 use Rattle.paper_expressions.specs.Types.{Ty, Text, Integer, Real, SetofText, SetofReal, unknown-of-any, integer-of, integer-counts-as-real, real-of, element-integer, element-real, EachOf, each-none, each-more, Of, of-scalar, of-list}
 use Rattle.paper_expressions.specs.Clauses.{Clause}
 use Rattle.paper_expressions.specs.View.{View, Sound}
@@ -10,7 +10,8 @@ use Rattle.paper_expressions.specs.Expressions.{Expr, Apply, ε, _▸_, 
 use Rattle.paper_expressions.specs.Evaluation.{Evaluates, functor-form, values-none, values-more}
 use Rattle.paper_expressions.specs.Laws.Finds.{Fit, none-fit, one-fits}
 use Rattle.paper_expressions.specs.Laws.CallLaws.{operands-fit, values-fit}
-use Rattle.paper_expressions.specs.Laws.Minimum.{NumbersAndUnknowns, numeric-none, numeric-unknown, numeric-number, Minimum, minimum}
+use Rattle.paper_expressions.specs.Laws.Minimum.{NumbersAndUnknowns, numeric-none, numeric-unknown, numeric-number, minimum}
+pub use Rattle.paper_expressions.specs.Promises.{MinimumOf, of-readings, of-unknown, Numeral, of-integers, of-reals}
 
 integers : {l : List Scalar} → EachOf Integer l → NumbersAndUnknowns l
 integers each-none = numeric-none
@@ -22,16 +23,6 @@ reals each-none = numeric-none
 reals (each-more unknown-of-any h) = numeric-unknown (reals h)
 reals (each-more integer-counts-as-real h) = numeric-number integer-is (reals h)
 reals (each-more real-of h) = numeric-number real-is (reals h)
-
--- what E comes to: readings, of which r is the minimum; or nothing known, and r is unknown
-pub data MinimumOf (τ : View) (T : ℕ) (e : Expr) (r : Value) : Type 0 where
-  of-readings : {cs : List Clause} {l : List Scalar} → Evaluates τ T e cs (sequence l) → Minimum l r → MinimumOf τ T e r
-  of-unknown : {cs : List Clause} → Evaluates τ T e cs (one unknown) → IsUnknown r → MinimumOf τ T e r
-
--- an integer or a real
-pub data Numeral : Ty → Type 0 where
-  of-integers : Numeral Integer
-  of-reals : Numeral Real
 
 -- the other entries of min's types give no such type
 no-later-integer : {us : List Ty} → ¬ Among (us ⇒ Integer) ((SetofReal ∷ [] ⇒ Real) ∷ (SetofText ∷ [] ⇒ Text) ∷ [])
