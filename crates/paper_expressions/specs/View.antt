@@ -36,7 +36,7 @@ pub data At {A : Type 0} : List A → ℕ → A → Type 0 where
 
 pub data ResolveData (v : View) (T : ℕ) (a : List ℕ) : Clause → Option ℕ → Type 0 where
   -- 1. If the properties table contains rows (T, parameters, ..) ..: left out (10); request 8/13
-  -- 2. Else if there is an A' such that A' and A are equal if case is ignored and a component identifier D such that
+  -- 2. Else if there is an A' such A' and A are equal if case is ignored and a component identifier D such that
   --    the Properties table contains the rows (D, class, data_item) and (D, name, A') then D
   resolve-data-2 : {d : ℕ} {x : Item} → At (v .items) d x → Alike (x .name) a → ResolveData v T a §9·5-2 (some d)
   -- 3. Else unknown

@@ -93,7 +93,7 @@ with-sign f (negsuc n) = 45 ∷ f (suc n)
 abbrev pub with-point : ℕ → List ℕ
 with-point m = digits-of (m / 1000) ++ 46 ∷ last-digits 3 m
 
--- "Text is written bare, unknown as that word"
+-- "Text is written bare, unknown as that word, a list as `[1, unknown]`."
 abbrev pub scalar-written : Scalar → List ℕ
 scalar-written unknown = bytes "unknown"
 scalar-written (truth true) = bytes "true"
@@ -117,7 +117,7 @@ abbrev pub answer-written : LineAnswer → List ℕ
 answer-written (refused n) = bytes "refused " ++ digits-of n
 answer-written (gives t v) = bytes (type-name t) ++ 32 ∷ value-written v
 
--- ---- the whole of it: the header, and for each line, counted from 1, its number and its answer
+-- ---- "it writes exactly": the header, and for each line, counted from 1, its number and its answer
 
 -- what stands before each newline (10), and behind the last one if any byte does
 abbrev last-line : List ℕ → List (List ℕ)
