@@ -1,33 +1,19 @@
 -- Law: the minimum of a list of numbers and unknowns is one of them, no known one lies below it, and it is unknown only if none is
 -- known. By the least number of the list, found from its end.
-use mathlib.Core.Path.{_≡_, refl, sym, ap, subst, _∙_}
+use mathlib.Core.Path.{_≡_, refl, subst}
 use mathlib.Core.Logic.{_⊎_, inl, inr}
-use mathlib.Core.List.{List, [], _∷_}
-use Prim.Native.Nat.{ℕ, zero, suc, _≤_, _<_}
+use mathlib.Core.List.{List, _∷_}
+use Prim.Native.Nat.{ℕ, zero, suc, _<_}
 use native.Mathlib.Omega.{arith}
 use lib.IntN.{ℤ}
 use lib.Signed.{_<ℤ_, _≤ℤ_, ltZ, ltZ-yes, ltZ-no, <ℤ-≤ℤ-trans}
 use lib.Dec.{not-T}
-use lib.ListN.{getD, length}
-use Rattle.paper_expressions.specs.Values.{Scalar, unknown, Value, one, sequence, IsUnknown, is-unknown, Number, integer-is, real-is, IsSequence, is-sequence}
+use lib.ListN.{length}
+use Rattle.paper_expressions.specs.Values.{Scalar, unknown, Value, one, sequence, IsUnknown, is-unknown, Number, integer-is, real-is, is-sequence}
 use Rattle.paper_expressions.specs.Clauses.{Clause}
-use Rattle.paper_expressions.specs.Operators.{min, Sign, +1, -1, ±0, ±?, Comp, comp-1, comp-2a, comp-2b, comp-2c, element, Fine, min-down, min-level, min-unknown, Unbeaten, unbeaten, Best, Extremal, extremal-1, extremal-2}
+use Rattle.paper_expressions.specs.Operators.{min, comp-1, comp-2a, comp-2b, comp-2c, element, Fine, min-down, min-level, min-unknown, Unbeaten, unbeaten, Best, Extremal, extremal-1, extremal-2}
 use Rattle.paper_expressions.specs.Laws.Compare.{OrderZ, ordered, one-sign, unknown-no-number, numbers-known, not-greater, not-greater-same, not-less-same}
-
--- a list of numbers and unknowns
-pub data NumbersAndUnknowns : List Scalar → Type 0 where
-  numeric-none : NumbersAndUnknowns []
-  numeric-unknown : {l : List Scalar} → NumbersAndUnknowns l → NumbersAndUnknowns (unknown ∷ l)
-  numeric-number : {s : Scalar} {x : ℤ} {l : List Scalar} → Number (one s) x → NumbersAndUnknowns l → NumbersAndUnknowns (s ∷ l)
-
--- r is the minimum of l
-pub record Minimum (l : List Scalar) (r : Value) : Type 0 where
-  -- it is unknown, or one of them
-  pub member : IsUnknown r ⊎ ((i : ℕ) × (i < length l) × (element l i ≡ r))
-  -- no known one lies below it, in the order of numbers
-  pub least : (x y : ℤ) (i : ℕ) → Number r x → i < length l → Number (element l i) y → ¬ (y <ℤ x)
-  -- it is unknown only if none is known
-  pub unknown-if : IsUnknown r → (i : ℕ) → i < length l → IsUnknown (element l i)
+pub use Rattle.paper_expressions.specs.Promises.{NumbersAndUnknowns, numeric-none, numeric-unknown, numeric-number, Minimum}
 
 -- ---- the proof
 
