@@ -1,0 +1,11 @@
+pub mod Booleans
+pub mod Lists
+pub mod Seen
+pub mod Ranks
+pub mod RowLists
+pub mod Deciding
+pub mod Lawful
+pub mod ReachLaws
+pub mod SingleLaws
+pub mod LoadLaws
+pub mod InitialLaws
