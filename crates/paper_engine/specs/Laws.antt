@@ -6,3 +6,7 @@ pub mod Chains
 pub mod Twins
 pub mod ReviewLaws
 pub mod RowsLaws
+pub mod KeptLaws
+pub mod EnactLaws
+pub mod StateLaws
+pub mod CountLaws

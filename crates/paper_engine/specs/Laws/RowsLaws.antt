@@ -389,30 +389,39 @@ own-start-most : (t : Table.Table) (now T : ℕ) → length (own-start-rows t no
 own-start-most t now T =
     let x = whatF (integerF (t (task № T) cycle-count)) (λ n. a-row (task № T) cycle-count (integer-row (n +ℤ pos 1)) ∷ []) in
     let y = onlyIf (actionF t T && absentF (expressionF (t (task № T) procedure))) (a-row (task № T) actual-procedure unknown-row ∷ []) in
-    omega (arith, what-most (integerF (t (task № T) cycle-count)) (λ n. a-row (task № T) cycle-count (integer-row (n +ℤ pos 1)) ∷ []) 1 (λ n e. omega arith),
+    omega (
+      arith,
+      what-most (integerF (t (task № T) cycle-count)) (λ n. a-row (task № T) cycle-count (integer-row (n +ℤ pos 1)) ∷ []) 1 (λ n e. omega arith),
       if-most (actionF t T && absentF (expressionF (t (task № T) procedure))) (a-row (task № T) actual-procedure unknown-row ∷ []),
-      length-append x ((a-row (task № T) confirmed (truth-row false) ∷ []) ++ y))
+      length-append x ((a-row (task № T) confirmed (truth-row false) ∷ []) ++ y),
+    )
 
 module _ {g : List TopLevel} {t : Table.Table} (lawful : Lawful g) (kept : Kept g t) where
   source-start-most : {T : ℕ} {k : Task} → At (tasks g) T k → length (source-start-rows t T) ≤ length (sources-of k)
   source-start-most {T} {k} q =
       let m = what-most (componentsF (t (task № T) Table.sources)) (eachF (λ i S. source-rows t S)) (length (sources-of k))
-        (λ l e. let a = each-most (λ i S. source-rows t S) (λ S. 1) l (λ i S h. source-rows-most t S) in
-          let b = sources-most q (adds kept fixed-sources (sees-components .has (t (task № T) Table.sources) l e)) in
-          omega (arith, ones l)) in
+      (λ l e. let a = each-most (λ i S. source-rows t S) (λ S. 1) l (λ i S h. source-rows-most t S) in
+      let b = sources-most q (adds kept fixed-sources (sees-components .has (t (task № T) Table.sources) l e)) in
+      omega (arith, ones l)) in
       omega (arith, if-most (thereF (classF (t (task № T) class)) (λ x. same-class x an-enquiry)) (whatF (componentsF (t (task № T) Table.sources)) (eachF (λ i S. source-rows t S))))
 
   complete-most : (now : ℕ) {T : ℕ} {k : Task} → At (tasks g) T k → length (complete-rows g t now T) ≤ 6 + length (assignments-of k)
   complete-most now {T} {k} q =
       let m = what-most (assertionF (t (task № T) postcondition)) (eachF (λ i a. assignment-rows g t T a)) (length (assignments-of k))
-        (λ l e. let a = each-most (λ i a. assignment-rows g t T a) (λ x. 1) l (λ i x h. assignment-rows-most g t T x) in
-          let b = assertion-most q (adds kept fixed-postcondition (sees-assertion .has (t (task № T) postcondition) l e)) in
-          omega (arith, ones l)) in
+      (λ l e. let a = each-most (λ i a. assignment-rows g t T a) (λ x. 1) l (λ i x h. assignment-rows-most g t T x) in
+      let b = assertion-most q (adds kept fixed-postcondition (sees-assertion .has (t (task № T) postcondition) l e)) in
+      omega (arith, ones l)) in
       let x = onlyIf (cycleF g t T) (onlyIf (intervalF t T) (a-row (task № T) start-at (time-is now) ∷ [])) in
       let y = onlyIf (not (cycleF g t T)) (a-row (task № T) start-at unknown-row ∷ []) in
       let z = whatF (assertionF (t (task № T) postcondition)) (eachF (λ i a. assignment-rows g t T a)) in
-      omega (arith, length-append x (y ++ z), length-append y z, if-most (cycleF g t T) (onlyIf (intervalF t T) (a-row (task № T) start-at (time-is now) ∷ [])),
-        if-most (intervalF t T) (a-row (task № T) start-at (time-is now) ∷ []), if-most (not (cycleF g t T)) (a-row (task № T) start-at unknown-row ∷ []))
+      omega (
+        arith,
+        length-append x (y ++ z),
+        length-append y z,
+        if-most (cycleF g t T) (onlyIf (intervalF t T) (a-row (task № T) start-at (time-is now) ∷ [])),
+        if-most (intervalF t T) (a-row (task № T) start-at (time-is now) ∷ []),
+        if-most (not (cycleF g t T)) (a-row (task № T) start-at unknown-row ∷ []),
+      )
 
   rows-most : (now : ℕ) {T : ℕ} {k : Task} → At (tasks g) T k → (d : Clause) → length (rows-by g t now T d) ≤ weight k
   rows-most now {T} q §8·5·1-1 = omega (arith, initialise-most t T)
