@@ -19,35 +19,10 @@ use Rattle.paper_rows.specs.Table.{_№_, Assigns, expression-is, assertion-is}
 use Rattle.paper_rows.specs.Load as Load
 use Load.{InstantiateTask, SetTaskAttribute, task-4, assigns, Adds, attribute-5-precondition, attribute-5-wait-condition, attribute-5-terminate, attribute-5-postcondition}
 use Rattle.paper_rows.specs.Laws.Lawful.{Lawful, defined}
+use Rattle.paper_rows.specs.Laws.Gathered.{typed, of-generic, of-source, of-attribute, expressions-from}
 use Rattle.paper_rows.specs.Laws.Lists.{at-left, at-right, each, each-at, map-at}
 
--- ---- the parts of a guideline, as in Parts
-
-abbrev typed : ℕ → Role → Outermost → List Typed
-typed t r x = record { expression = x; role = r; attached = t } ∷ []
-
-abbrev of-generic : ℕ → Generic → List Typed
-of-generic t (caption x) = typed t wording x
-of-generic t (description x) = typed t wording x
-
-abbrev of-source : ℕ → SourceAttribute → List Typed
-of-source t (source-generic g) = of-generic t g
-of-source t (mandatory b) = []
-
-abbrev of-attribute : ℕ → Attribute → List Typed
-of-attribute t (generic g) = of-generic t g
-of-attribute t (precondition x) = typed t condition x
-of-attribute t (wait-condition x) = typed t condition x
-of-attribute t (terminate x) = typed t condition x
-of-attribute t (postcondition xs) = each (λ (a : Assignment). typed t (assigned-to (a .target)) (a .value)) xs
-of-attribute t (trigger n) = []
-of-attribute t (component n xs) = []
-of-attribute t (source n xs) = each (λ (a : Placed SourceAttribute). of-source t (a .what)) xs
-
-abbrev expressions-from : ℕ → List TopLevel → List Typed
-expressions-from t [] = []
-expressions-from t (task k ∷ g) = each (λ (a : Placed Attribute). of-attribute t (a .what)) (k .attributes) ++ expressions-from (suc t) g
-expressions-from t (data-item d ∷ g) = each (λ (a : Placed Generic). of-generic 0 (a .what)) (d .attributes) ++ expressions-from t g
+-- ---- where an expression stands among all
 
 -- an expression of the c-th task from n is attached to the task n + c
 of-task : (n : ℕ) (g : List TopLevel) {c j i : ℕ} {k : Task} {a : Placed Attribute} {x : Typed}

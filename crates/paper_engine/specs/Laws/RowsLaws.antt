@@ -35,6 +35,7 @@ use Rattle.paper_rows.specs.Laws.Ranks.{same-class, is-same-class}
 use Rattle.paper_rows.specs.Laws.RowLists
 use RowLists.{Rows, Row, a-row, Listed, Only, it, listed-only, listed-none, listed-as, _or_, listed-or, onlyIf, listed-if, whatF, listed-held, Each, eachF, listed-each, total, each-most, if-most, what-most}
 use Rattle.paper_rows.specs.Laws.Lists.{each}
+use Rattle.paper_rows.specs.Laws.Gathered.{assigned-in, assignments-of}
 use Rattle.paper_rows.specs.Laws.Lawful.{Lawful, defined}
 use Rattle.paper_engine.specs.Laws.CollisionLaws.{one-clause}
 use Rattle.paper_engine.specs.Laws.Kept.{Kept, adds, instantiated, task-id, fixed-postcondition, fixed-sources, viewF, view-of, view-sound, same-items, one-view}
@@ -333,19 +334,6 @@ module _ {g : List TopLevel} {t : Table.Table} (lawful : Lawful g) (kept : Kept 
       back c p r (asked-by {T} i q) = let k = instantiated kept i in (T, k .0, defined (k .1), q)
 
 -- ---- how many rows one task asks for
-
-abbrev assigned-in : Attribute → List Assignment
-assigned-in (Structure.generic g) = []
-assigned-in (Structure.precondition x) = []
-assigned-in (Structure.wait-condition x) = []
-assigned-in (Structure.terminate x) = []
-assigned-in (Structure.postcondition xs) = xs
-assigned-in (Structure.trigger n) = []
-assigned-in (Structure.component n xs) = []
-assigned-in (Structure.source n xs) = []
-
-abbrev assignments-of : Task → List Assignment
-assignments-of k = each (λ (a : Placed Attribute). assigned-in (a .what)) (k .attributes)
 
 -- six rows of its own, and one for each assignment and each source
 abbrev pub weight : Task → ℕ

@@ -1,4 +1,4 @@
--- Law: a guideline that loads is lawful: its names, its types, and every task reached. Whether an expression fits is decided.
+-- Law: a guideline that loads is lawful: its names, its types, and every task reached. By deciding whether an expression fits and a task is reached.
 use Prim.Native.Nat.{ℕ, _<_}
 use native.Mathlib.Omega.{arith}
 use mathlib.Core.Path.{_≡_, refl, sym, ap, subst, _∙_}
@@ -95,20 +95,22 @@ declared-apart {g} names = record { items = items; tasks = λ h k p q e. absurd 
         let f : Alike (a .0 .named .spelt) (b .0 .named .spelt) = ap (λ (z : Item). folded (z .name)) (a .2) ∙ e ∙ sym (ap (λ (z : Item). folded (z .name)) (b .2)) in
         at-most (λ l. names _ (data-item-twice l (a .1) (b .1) f)) (λ l. names _ (data-item-twice l (b .1) (a .1) (sym f)))
 
+-- ---- where no rule on names is broken every task is reached
+
+pub reached-by-names : {g : List TopLevel} → ((p : ℕ) → ¬ NameBreach g p) → {c : ℕ} {k : Task} → At (tasks g) c k → InstantiateTask g k c
+reached-by-names {g} names {c} {k} h = go (reached? g c)
+  where
+    go : Dec (Reached g c) → InstantiateTask g k c
+    go (yes z) = reached-instantiated z h
+    go (no m) = absurd (names _ (not-reached h m))
+
 -- ---- what loads is lawful
 
 pub lawful : {Short : Type 0} {text : List ℕ} {g : List TopLevel} → Answers Short text loads → Read text g → Lawful g
-lawful {Short} {text} {g} (is-loaded r n) q = record { reached = reached; names = names; types = types }
+lawful {Short} {text} {g} (is-loaded r n) q = record { reached = reached-by-names names; names = names; types = types }
   where
     names : (p : ℕ) → ¬ NameBreach g p
     names p b = n name-stage p (name-breach q b)
-
-    reached : {c : ℕ} {k : Task} → At (tasks g) c k → InstantiateTask g k c
-    reached {c} {k} h = go (reached? g c)
-      where
-        go : Dec (Reached g c) → InstantiateTask g k c
-        go (yes z) = reached-instantiated z h
-        go (no m) = absurd (names _ (not-reached h m))
 
     types : {i : ℕ} {x : Typed} → At (expressions g) i x → Fitting (declared-items g) x (x .role)
     types {i} {x} h = go (fitting? (declared-apart names) x (x .role))
