@@ -10,3 +10,5 @@ pub mod KeptLaws
 pub mod EnactLaws
 pub mod StateLaws
 pub mod CountLaws
+pub mod Spelling
+pub mod LimitLaws

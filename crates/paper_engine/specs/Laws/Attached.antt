@@ -84,3 +84,11 @@ module _ {g : List TopLevel} (lawful : Lawful g) where
   assigned-typed {T} (attribute-5-postcondition {l} h) q =
       let k = map-at assigns l q in
       subst (Assigned g T) (k .2) (assignment-typed h (k .1))
+
+-- where an assigned expression stands among those of the guideline
+pub assigned-at : {g : List TopLevel} {T i : ℕ} {l : List Assigns} {a : Assigns} → Adds g (Table.task № T) Table.postcondition (assertion-is l) → At l i a
+    → (x : Typed) × ((m : ℕ) × At (expressions g) m x) × ((x .attached ≡ T) × (x .expression .tree ≡ a .assigned))
+assigned-at {g} {T} {a} (attribute-5-postcondition {l} h) q =
+    let k = map-at assigns l q in
+    let r = each-at (λ (b : Assignment). typed T (assigned-to (b .target)) (b .value)) (k .1) at-first in
+    (record { expression = k .0 .value; role = assigned-to (k .0 .target); attached = T }, attached h (r .1), (refl, ap (λ (x : Assigns). x .assigned) (k .2)))
