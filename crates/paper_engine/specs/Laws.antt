@@ -12,3 +12,4 @@ pub mod StateLaws
 pub mod CountLaws
 pub mod Spelling
 pub mod LimitLaws
+pub mod TimeLaws
