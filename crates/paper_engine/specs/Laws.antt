@@ -13,3 +13,4 @@ pub mod CountLaws
 pub mod Spelling
 pub mod LimitLaws
 pub mod TimeLaws
+pub mod RowFacts

@@ -82,7 +82,7 @@ module _ {g : List TopLevel} (lawful : Lawful g) where
   pub component-at : {P T : ℕ} {a : Parts.Component} → InstantiateComponent g P a T → (i : ℕ) × At (components g) i a
   component-at (task-5 i h j e) = (_, before-at components-of (defined i) h)
 
-  source-at : {c n : ℕ} {s : Source} → InstantiateSource g c s n → At (sources g) n s
+  pub source-at : {c n : ℕ} {s : Source} → InstantiateSource g c s n → At (sources g) n s
   source-at {c} {n} {s} (attribute-3 {k} h q e) = subst (λ (x : ℕ). At (sources g) x s) (ap (λ (x : ℕ). x + k) (counted c (tasks g)) ∙ sym e) (before-at sources-of (defined h) q)
     where
       counted : (c : ℕ) (l : List Task) → before sources-of c l ≡ sources-before c l
