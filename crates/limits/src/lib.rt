@@ -2,7 +2,7 @@
 // The limits of values stand on the types of values: integers and reals on numbers::Num, texts on values::Handle, lists on values::List.
 ghost use mathlib.Core.Path.{_≡_};
 ghost use Rattle.limits.specs.Limits.{cycle-limit, time-limit, wait-side, change-rows};
-ghost use Rattle.paper_guideline.specs.Limits.{text-limit, token-limit, bracket-limit, task-limit, data-item-limit};
+ghost use Rattle.paper_guideline.specs.Limits.{guideline-limit, token-limit, bracket-limit, task-limit, data-item-limit};
 ghost use Rattle.paper_guideline.specs.Limits.{part-limit, depth-limit, assignment-limit, source-limit, decimal-limit};
 
 pub struct Guideline;
@@ -12,7 +12,7 @@ impl Guideline {
     pub const LIMIT: usize = 16_384;
 
     pub fn bytes() -> usize
-        ensures { λ r. ⌜ r ≡ text-limit ⌝ }
+        ensures { λ r. ⌜ r ≡ guideline-limit ⌝ }
     {
         Guideline::LIMIT
     }

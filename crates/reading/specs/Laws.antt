@@ -13,7 +13,7 @@ use borrow.Author.Tests.{leb-true, leb-false, ltb-true, ltb-false, lt-ltb, le-lt
 use lib.Dec.{leb}
 use Rattle.paper_expressions.specs.Laws.Tests.{two, contra}
 use Rattle.paper_expressions.specs.View as View
-use Rattle.paper_guideline.specs.Limits.{text-limit, part-limit, token-limit}
+use Rattle.paper_guideline.specs.Limits.{guideline-limit, part-limit, token-limit}
 use Rattle.paper_tokens.specs.Lexical.{Token, Tokens}
 use Rattle.paper_tokens.specs.Laws.LexicalLaws as LexicalLaws
 use Rattle.paper_guideline.specs.Structure.{TopLevel, Structure, Outermost}
@@ -129,22 +129,22 @@ record Roomy (r c n s l b : ℕ) : Type 0 where
   pub counts : part-limit ≤ n
   pub sizes : part-limit ≤ s
   pub loads : part-limit ≤ l
-  pub bytes : text-limit ≤ b
+  pub bytes : guideline-limit ≤ b
 
 roomy : (r c n s l b : ℕ) → ¬ (is-short r c n s l b ≡ true) → Roomy r c n s l b
 roomy r c n s l b h =
-    let a = neither (ltb r row-cells) (ltb c part-limit || (ltb n part-limit || (ltb s part-limit || (ltb l part-limit || ltb b text-limit)))) h in
-    let d = neither (ltb c part-limit) (ltb n part-limit || (ltb s part-limit || (ltb l part-limit || ltb b text-limit))) (a .1) in
-    let e = neither (ltb n part-limit) (ltb s part-limit || (ltb l part-limit || ltb b text-limit)) (d .1) in
-    let f = neither (ltb s part-limit) (ltb l part-limit || ltb b text-limit) (e .1) in
-    let g = neither (ltb l part-limit) (ltb b text-limit) (f .1) in
+    let a = neither (ltb r row-cells) (ltb c part-limit || (ltb n part-limit || (ltb s part-limit || (ltb l part-limit || ltb b guideline-limit)))) h in
+    let d = neither (ltb c part-limit) (ltb n part-limit || (ltb s part-limit || (ltb l part-limit || ltb b guideline-limit))) (a .1) in
+    let e = neither (ltb n part-limit) (ltb s part-limit || (ltb l part-limit || ltb b guideline-limit)) (d .1) in
+    let f = neither (ltb s part-limit) (ltb l part-limit || ltb b guideline-limit) (e .1) in
+    let g = neither (ltb l part-limit) (ltb b guideline-limit) (f .1) in
     record {
       rows = long-enough r row-cells (a .0);
       codes = long-enough c part-limit (d .0);
       counts = long-enough n part-limit (e .0);
       sizes = long-enough s part-limit (f .0);
       loads = long-enough l part-limit (g .0);
-      bytes = long-enough b text-limit (g .1);
+      bytes = long-enough b guideline-limit (g .1);
     }
 
 module _ {text kinds places lengths o o′ x : List ℕ} {t : Table} {n : ℕ} {short : Bool} where
@@ -155,7 +155,7 @@ module _ {text kinds places lengths o o′ x : List ℕ} {t : Table} {n : ℕ} {
       let r = roomy (length x) (length (t .kinds)) (length (t .counts)) (length (t .sizes)) (length (t .loads)) (length (t .bytes))
       (λ k. j .passed limit-stage (length text) (omega arith) (Refusals.short-table (e ∙ k))) in
       let rr = r .rows in
-      let sh : length text ≤ text-limit = at-most (length text) text-limit (λ k. j .passed text-stage (length text) (omega arith) (long k)) in
+      let sh : length text ≤ guideline-limit = at-most (length text) guideline-limit (λ k. j .passed text-stage (length text) (omega arith) (long k)) in
       let f = few-rows (j .structure) in
       let ft : length (j .tokens) ≤ token-limit = at-most (length (j .tokens)) token-limit (λ k. j .passed Refusals.count-stage (length text) (omega arith) (Refusals.many-tokens (j .its) k)) in
       let c = j .outline .count in

@@ -5,7 +5,7 @@ use mathlib.Core.Bool.{Bool, true, _||_}
 use mathlib.Core.List.{List}
 use lib.Dec.{ltb}
 use lib.ListN.{length, getD, replicate}
-use Rattle.paper_guideline.specs.Limits.{text-limit, part-limit}
+use Rattle.paper_guideline.specs.Limits.{guideline-limit, part-limit}
 use Rattle.paper_tokens.specs.Lexical.{Token, Tokens}
 use Rattle.paper_guideline.specs.Structure.{TopLevel, Structure}
 use Rattle.paper_guideline.specs.Refusals as Refusals
@@ -24,7 +24,7 @@ use Rattle.reading.specs.declared.Reading.the-variants.{Reads, Refused}
 -- a lent table, of so many cells, is shorter than its least length
 abbrev pub is-short : ℕ → ℕ → ℕ → ℕ → ℕ → ℕ → Bool
 is-short rows codes counts sizes loads bytes =
-    ltb rows row-cells || (ltb codes part-limit || (ltb counts part-limit || (ltb sizes part-limit || (ltb loads part-limit || ltb bytes text-limit))))
+    ltb rows row-cells || (ltb codes part-limit || (ltb counts part-limit || (ltb sizes part-limit || (ltb loads part-limit || ltb bytes guideline-limit))))
 
 abbrev pub Short : List ℕ → Table → Type 0
 Short x t = is-short (length x) (length (t .kinds)) (length (t .counts)) (length (t .sizes)) (length (t .loads)) (length (t .bytes)) ≡ true
@@ -85,7 +85,7 @@ pub record Ready (text kinds places lengths : List ℕ) (n : ℕ) (o x : List �
   pub sound : Sound (source text kinds places lengths)
   pub few : parts-in (flatten g) ≤ part-limit
   pub wide : Wide t
-  pub bytes : text-limit ≤ length (t .bytes)
+  pub bytes : guideline-limit ≤ length (t .bytes)
   pub blank : Empty x t x t
 
 pub record Fills (text kinds places lengths : List ℕ) (n : ℕ) (o x : List ℕ) (t : Table) (x′ : List ℕ) (t′ : Table) : Type 0 where
