@@ -14,3 +14,4 @@ pub mod Spelling
 pub mod LimitLaws
 pub mod TimeLaws
 pub mod RowFacts
+pub mod Worked

@@ -282,6 +282,17 @@ module _ {N : Rows} {l : List Row} (listed : Listed N l) (agree : (c : Component
           none h = elim h [ ]
       go (x ∷ m) e = is-yes (record { c = x .of; p = x .property; r = x .holds; row = listed .back (subst (λ (y : List Row). At y 0 x) (sym e) at-first) })
 
+-- a row does not differ from itself
+pub same-differ : (r : RowValue) → differF r r ≡ false
+same-differ r = go (valueF (some r))
+  where
+    off : {b : Bool} → b ≡ true → not b ≡ false
+    off e = cc
+
+    go : (o : Option Value) → thereF o (λ v. thereF o (λ w. not (same-value v w))) ≡ false
+    go none = refl
+    go (some v) = off (is-same-value v v .1 refl)
+
 -- ---- the rows of a cycle
 
 module _ {g : List TopLevel} {t : Table} (lawful : Lawful g) (kept : Kept g t) where
@@ -291,16 +302,6 @@ module _ {g : List TopLevel} {t : Table} (lawful : Lawful g) (kept : Kept g t) w
       go : (b : Bool) → Tests b P → Tests (not (not b)) P
       go true h = h
       go false h = h
-
-  same-differ : (r : RowValue) → differF r r ≡ false
-  same-differ r = go (valueF (some r))
-    where
-      off : {b : Bool} → b ≡ true → not b ≡ false
-      off e = cc
-
-      go : (o : Option Value) → thereF o (λ v. thereF o (λ w. not (same-value v w))) ≡ false
-      go none = refl
-      go (some v) = off (is-same-value v v .1 refl)
 
   agree : {now : ℕ} (c : Component) (p : Property) (r q : RowValue) → Changes t now c p r → Changes t now c p q → Tests (not (differF r q)) (q ≡ r)
   agree {now} c p r q h k = go (changes-same h k) h k

@@ -4,7 +4,7 @@ use native.Mathlib.Omega.{arith}
 use mathlib.Core.Path.{_≡_, refl, sym, ap, subst, _∙_}
 use mathlib.Core.Logic.{_⊎_, inl, inr}
 use mathlib.Core.Option.{Option, none, some}
-use mathlib.Core.List.{List, [], _∷_}
+use mathlib.Core.List.{List, [], _∷_, List·Memᴰ, List·Memᴰ·not-nil}
 use Rattle.paper_expressions.specs.Bytes.{folded, Alike}
 use Rattle.paper_expressions.specs.Laws.Search.{no-clash, at-one}
 use Rattle.paper_expressions.specs.Types.{Ty, Ty-discrete, Text, TruthValue, inferred, Promotes}
@@ -18,6 +18,8 @@ use Rattle.paper_guideline.specs.Structure.{Name, TopLevel, DataItem, Task, tas
 use Rattle.paper_guideline.specs.Parts.{Role, condition, wording, assigned-to, Typed, expressions}
 use Rattle.paper_guideline.specs.Names.{NameBreach, data-item-twice, not-reached, Reached}
 use Rattle.paper_guideline.specs.Refusals.{Stage, name-stage, type-stage, Breach, name-breach, no-type, Read, Answers, loads, is-loaded, Fitting, fits-condition, fits-wording, fits-assigned, declared-items}
+use Rattle.paper_guideline.specs.Laws.NameTwin.{name-places, name-breach-in}
+use Rattle.paper_guideline.specs.Laws.FittingTwin.{type-places, unfit-in}
 use Rattle.paper_rows.specs.Load.{InstantiateTask}
 use Rattle.paper_rows.specs.Laws.Deciding.{either?, as?}
 use Rattle.paper_rows.specs.Laws.Lawful.{Lawful}
@@ -118,3 +120,21 @@ lawful {Short} {text} {g} (is-loaded r n) q = record { reached = reached-by-name
         go : Dec (Fitting (declared-items g) x (x .role)) → Fitting (declared-items g) x (x .role)
         go (yes f) = f
         go (no m) = absurd (n type-stage _ (no-type q h m))
+
+-- ---- and so is one whose computed breaches of names and types are none
+
+pub lawful-if : (g : List TopLevel) → name-places g ≡ [] → type-places g ≡ [] → Lawful g
+lawful-if g e f = record { reached = reached-by-names names; names = names; types = types }
+  where
+    nowhere : {l : List ℕ} {p : ℕ} → l ≡ [] → ¬ List·Memᴰ p l
+    nowhere {p} z m = List·Memᴰ·not-nil (subst (List·Memᴰ p) z m)
+
+    names : (p : ℕ) → ¬ NameBreach g p
+    names p b = nowhere e (name-breach-in g b)
+
+    types : {i : ℕ} {x : Typed} → At (expressions g) i x → Fitting (declared-items g) x (x .role)
+    types {i} {x} h = go (fitting? (declared-apart names) x (x .role))
+      where
+        go : Dec (Fitting (declared-items g) x (x .role)) → Fitting (declared-items g) x (x .role)
+        go (yes k) = k
+        go (no m) = absurd (nowhere f (unfit-in g (declared-apart names) h m))
