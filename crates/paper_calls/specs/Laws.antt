@@ -1,0 +1,4 @@
+pub mod CallLaws
+pub mod TotalLaws
+pub mod Demands
+pub mod NumberLaws
