@@ -19,7 +19,7 @@ use Rattle.paper_tokens.specs.Lexical.{bare-atom, quoted-atom, integer-form, pl
 use Rattle.matches.specs.Kinds.{fineOf, coarse}
 use Rattle.matches.specs.KindsLaws.{fine-small, finer}
 use Rattle.matches.specs.Machine.{delta, accepts, plain-states, nextOf, accOf, plainOf, run}
-use Rattle.matches.proofs.Every.{every, at, or-right, is-true}
+use Rattle.terminals.specs.Every.{every, at, or-right, is-true}
 
 -- ---- the machine's numbers
 

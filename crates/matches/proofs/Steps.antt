@@ -19,7 +19,7 @@ use Rattle.matches.specs.KindsLaws.{fine-small}
 use Rattle.matches.specs.Machine.{starts, accepts, nextOf, accOf, run, Takes}
 use Rattle.matches.specs.Walk.{betterOf, beginOf, Sofar, Settled}
 use Rattle.matches.specs.declared.Best.{Best}
-use Rattle.matches.proofs.Every.{at, at-below}
+use Rattle.terminals.specs.Every.{at, at-below}
 use Rattle.matches.proofs.Cert.{run-small, run-more, run-dead, next-dead}
 
 pub cond-yes : {A : Type 0} (t : Bool) (a b : A) → t ≡ true → cond t a b ≡ a
