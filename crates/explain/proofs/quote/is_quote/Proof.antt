@@ -1,7 +1,7 @@
 -- `is_quote`: by the tests that the code makes.
 use borrow.Author.Tests.{eq-eqb, ne-eqb}
-use Rattle.explain.proofs.cause.is_quote.Statement.{statement}
-use Rattle.explain.proofs.cause.is_quote.Tie as tie
+use Rattle.explain.proofs.quote.is_quote.Statement.{statement}
+use Rattle.explain.proofs.quote.is_quote.Tie as tie
 
 returns : tie.Need-returns
 returns c = simp (eq-eqb _ _ (c .if1 .taken))
