@@ -18,7 +18,6 @@ use Rattle.paper_guideline.specs.Refusals.{TokenBreach}
 use Rattle.paper_guideline.specs.Line.{refused, LineAnswers}
 use Rattle.grammar.specs.declared.Start.the-variants.{Expression}
 use Rattle.grammar.specs.declared.Answer as Grammar
-use Rattle.grammar.specs.Reply.{Reply}
 use Rattle.grammar.specs.Reply as Read
 use Rattle.leaves.specs.Source.{source}
 use Rattle.token_tests.specs.declared.Found.{Found}
@@ -41,20 +40,20 @@ nothing-behind = record { no-operator = refl; no-call = refl }
 module _ {line kinds places lengths : List ℕ} where
   -- ---- the grammar
 
-  module _ (l : Lexed line kinds places lengths) {labels : List ℕ} {r : Grammar.Answer} (reply : Reply Expression kinds labels r) where
+  module _ (l : Lexed line kinds places lengths) {r : Grammar.Answer} (reply : Read.Verdict Expression kinds r) where
     pub not-read : {i : ℕ} → r ≡ Grammar.the-variants.Refused i → LineAnswers line (refused 3)
-    not-read e = no-sentence (l .its) (l .are) (l .before) (subst (Read.Verdict Expression kinds) e (reply .verdict) .1 .no-sentence)
+    not-read e = no-sentence (l .its) (l .are) (l .before) (subst (Read.Verdict Expression kinds) e reply .1 .no-sentence)
 
     -- there are never too many tokens to look at
     pub not-unread : r ≡ Grammar.the-variants.Unread → LineAnswers line (refused 3)
     not-unread e =
-        let h : token-limit < length kinds = subst (Read.Verdict Expression kinds) e (reply .verdict) in
+        let h : token-limit < length kinds = subst (Read.Verdict Expression kinds) e reply in
         let m = as-many (l .are) in
         let k : token-limit < length (l .tokens) = omega arith in
         absurd (few-tokens (l .its) (l .before) k)
 
     pub is-read : r ≡ Grammar.the-variants.Accepted → Sentence-of ⟨expression⟩ kinds
-    is-read e = subst (Read.Verdict Expression kinds) e (reply .verdict) .1
+    is-read e = subst (Read.Verdict Expression kinds) e reply .1
 
   -- ---- what is left out
 

@@ -18,8 +18,7 @@ pub fn parse(line: &[u8], kinds: &[u8], places: &[usize], lengths: &[usize]) -> 
     requires { ⌜ Lexed (now line) (now kinds) (now places) (now lengths) ⌝ }
     ensures { λ r. ⌜ Parses (now (line .entry)) (now (kinds .entry)) (now (places .entry)) (now (lengths .entry)) r ⌝ }
 {
-    let mut labels = [0u8; 1];
-    match grammar::read(kinds, Start::Expression, &mut labels) {
+    match grammar::read(kinds, Start::Expression) {
         Answer::Accepted => {}
         Answer::Refused(_) => {
             return Verdict::Refused(3);

@@ -5,7 +5,7 @@ ghost use mathlib.Core.Bool.{true};
 ghost use Prim.Native.Nat.{ℕ, _+_, _≤_, _<_};
 ghost use lib.ListN.{length};
 ghost use Rattle.matches.specs.Kinds.{fineOf};
-ghost use Rattle.matches.specs.Machine.{nextOf, accOf, Takes};
+ghost use Rattle.matches.specs.Machine.{accepts as acceptsOf, nextOf, accOf, Takes};
 ghost use Rattle.matches.specs.Walk.{betterOf, beginOf, Settled, Closes, Marks};
 
 pub mod table;
@@ -40,25 +40,20 @@ pub fn kind(b: u8) -> usize
     }
 }
 
-// The longest match so far: its length, 0 for none, its rule, and where the rule stands after it.
+// The longest match so far: its length, 0 for none, and its rule.
 pub struct Best {
     pub len: usize,
     pub rule: usize,
-    pub state: usize,
 }
 
 // A longer match wins; on a tie the one that is there.
-fn better(best: Best, q: usize, r: usize, n: usize) -> Best
-    requires { ⌜ q < 35 ⌝ }
+fn better(accepts: &[u8; 35], best: Best, q: usize, r: usize, n: usize) -> Best
+    requires { ⌜ (now accepts ≡ acceptsOf) × (q < 35) ⌝ }
     ensures { λ x. ⌜ x ≡ betterOf best q r n ⌝ }
 {
-    if table::accepting(q) {
+    if table::accepting(accepts, q) {
         if best.len < n {
-            return Best {
-                len: n,
-                rule: r,
-                state: q,
-            };
+            return Best { len: n, rule: r };
         }
         return best;
     }
@@ -131,12 +126,10 @@ fn walk(text: &[u8], at: usize, shut: bool) -> Best
     requires { ⌜ (at ≤ length (now text)) × (shut ≡ true → (m : ℕ) → ¬ Takes (now text) at 6 m) ⌝ }
     ensures { λ x. ⌜ Settled (now (text .entry)) at x ⌝ }
 {
+    let delta = table::delta();
+    let accepts = table::accepts();
     let mut states = begin(shut);
-    let mut best = Best {
-        len: 0,
-        rule: 0,
-        state: 0,
-    };
+    let mut best = Best { len: 0, rule: 0 };
     let mut i = at;
     'walk: while i < text.len() {
         let k = kind(text[i]);
@@ -150,9 +143,9 @@ fn walk(text: &[u8], at: usize, shut: bool) -> Best
                 }
                 break 'rules;
             }
-            let q = table::next(states[r], k);
+            let q = table::next(&delta, states[r], k);
             states[r] = q;
-            best = better(best, q, r, n);
+            best = better(&accepts, best, q, r, n);
             alive += q;
             r += 1;
         }

@@ -30,8 +30,7 @@ fn place_of(text: &[u8], kinds: &[u8], places: &[usize], i: usize) -> usize
 fn first_bad(text: &[u8], kinds: &[u8], places: &[usize]) -> Found
     ensures { λ r. ⌜ Sentences (now (text .entry)) (now (kinds .entry)) (now (places .entry)) r ⌝ }
 {
-    let mut labels = [0u8; 1];
-    match grammar::read(kinds, Start::Process, &mut labels) {
+    match grammar::read(kinds, Start::Process) {
         Answer::Accepted => Found::Nowhere,
         Answer::Refused(i) => Found::At(place_of(text, kinds, places, i)),
         Answer::Unread => Found::At(text.len()),
