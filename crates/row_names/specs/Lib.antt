@@ -1,0 +1,5 @@
+pub mod Pieces
+pub mod Selected
+pub mod Sheet
+pub mod Shape
+pub mod Flat
