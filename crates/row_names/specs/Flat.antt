@@ -168,7 +168,7 @@ module _ (c : ℕ → Bool) where
   none-of [] h = refl
   none-of (r ∷ l) h = rw (h 0 r at-first) (none-of l (λ i q k. h (suc i) q (at-later k)))
 
-task-head : (k : ℕ) → head-kind k ≡ false → task-kind k ≡ false
+pub task-head : (k : ℕ) → head-kind k ≡ false → task-kind k ≡ false
 task-head k e = let z = or-false (eqb k “plan”) _ e in
     let y = or-false (eqb k “action”) _ (z .1) in
     let x = or-false (eqb k “enquiry”) _ (y .1) in
@@ -180,7 +180,7 @@ data-head k e = let z = or-false (eqb k “plan”) _ e in
     let x = or-false (eqb k “enquiry”) _ (y .1) in
     or-false (eqb k “data”) _ (x .1) .0
 
-class-task : (k : Class) → task-kind (class-word k) ≡ true
+pub class-task : (k : Class) → task-kind (class-word k) ≡ true
 class-task plan = refl
 class-task action = refl
 class-task enquiry = refl

@@ -3,3 +3,4 @@ pub mod Selected
 pub mod Sheet
 pub mod Shape
 pub mod Flat
+pub mod Agreement
