@@ -4,3 +4,4 @@ pub mod Sheet
 pub mod Shape
 pub mod Flat
 pub mod Agreement
+pub mod Owners

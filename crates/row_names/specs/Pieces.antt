@@ -104,3 +104,7 @@ within {f = f} (piece-later {b = b} {l = l} p) =
     let n = length-append (f b) (each f l) in
     let z = within p in
     omega arith
+
+pub one-piece : {A B : Type 0} {f : A → List B} {l : List A} {k o q : ℕ} {a b : A} → Piece f l k o a → Piece f l k q b → (o ≡ q) × (a ≡ b)
+one-piece piece-first piece-first = (refl, refl)
+one-piece {f = f} (piece-later {b = b} p) (piece-later q) = let r = one-piece p q in (ap (λ (z : ℕ). length (f b) + z) (r .0), r .1)
