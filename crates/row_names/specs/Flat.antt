@@ -76,7 +76,7 @@ abbrev pub named-kind : ℕ → Bool
 named-kind k = isIn k (“trigger” ∷ “component” ∷ “source” ∷ “schedule-constraint” ∷ “=” ∷ [])
 
 -- an attribute of a component or of a source
-abbrev sub-kind : ℕ → Bool
+abbrev pub sub-kind : ℕ → Bool
 sub-kind k = isIn k (“caption” ∷ “description” ∷ “schedule-constraint” ∷ “terminal” ∷ “mandatory” ∷ [])
 
 abbrev pub is-there : {A : Type 0} → Option A → Bool
@@ -91,19 +91,19 @@ pub record Sub (r : Row) : Type 0 where
   pub kind : sub-kind (kind-of r) ≡ true
   pub inside : Inside r
 
-generic-sub : (p : ℕ) (g : Generic) → Sub (generic-row p g)
+pub generic-sub : (p : ℕ) (g : Generic) → Sub (generic-row p g)
 generic-sub p (caption x) = record { kind = refl; inside = record { plain = refl; names = refl } }
 generic-sub p (description x) = record { kind = refl; inside = record { plain = refl; names = refl } }
 
-component-sub : (p : ℕ) (a : ComponentAttribute) → Sub (component-row p a)
+pub component-sub : (p : ℕ) (a : ComponentAttribute) → Sub (component-row p a)
 component-sub p (schedule-constraint n) = record { kind = refl; inside = record { plain = refl; names = refl } }
 component-sub p (terminal b) = record { kind = refl; inside = record { plain = refl; names = refl } }
 
-source-sub : (p : ℕ) (a : SourceAttribute) → Sub (source-row p a)
+pub source-sub : (p : ℕ) (a : SourceAttribute) → Sub (source-row p a)
 source-sub p (source-generic g) = generic-sub p g
 source-sub p (mandatory b) = record { kind = refl; inside = record { plain = refl; names = refl } }
 
-placed-sub : {A : Type 0} (f : ℕ → A → Row) → ((p : ℕ) (a : A) → Sub (f p a)) → (xs : List (Placed A)) {i : ℕ} {r : Row} → At (placed-rows f xs) i r → Sub r
+pub placed-sub : {A : Type 0} (f : ℕ → A → Row) → ((p : ℕ) (a : A) → Sub (f p a)) → (xs : List (Placed A)) {i : ℕ} {r : Row} → At (placed-rows f xs) i r → Sub r
 placed-sub f h (x ∷ xs) at-first = h (x .word) (x .what)
 placed-sub f h (x ∷ xs) (at-later k) = placed-sub f h xs k
 

@@ -5,3 +5,4 @@ pub mod Shape
 pub mod Flat
 pub mod Agreement
 pub mod Owners
+pub mod NameLaw
