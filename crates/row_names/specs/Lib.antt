@@ -6,3 +6,4 @@ pub mod Flat
 pub mod Agreement
 pub mod Owners
 pub mod NameLaw
+pub mod AttributeLaw
