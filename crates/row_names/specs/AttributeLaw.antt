@@ -229,20 +229,20 @@ module _ (g : List TopLevel) (s : Sheet) (a : Agrees s (flatten g)) (shape : Sha
   abbrev Broken : ℕ → Type 0
   Broken p = (k : ℕ) × Bad s k × (p ≡ spot s k)
 
-  data-again : {i p : ℕ} {d : DataItem} → At (data-items g) i d → Names.Repeated generic-word (d .attributes) p → Broken p
+  pub data-again : {i p : ℕ} {d : DataItem} → At (data-items g) i d → Names.Repeated generic-word (d .attributes) p → Broken p
   data-again {i} {d = d} h f =
       let k = item-in g i d h in
       let q = at-piece top-rows (k .1) in
       run-again generic-row generic-word generic-kind generic-place generic-sub (d .attributes) (suc (q .0)) (item-run (q .1)) (λ x n. generic-once x) f
 
-  component-again : {i p : ℕ} {c : Component} → At (components g) i c → Names.Repeated component-word (c .attributes) p → Broken p
+  pub component-again : {i p : ℕ} {c : Component} → At (components g) i c → Names.Repeated component-word (c .attributes) p → Broken p
   component-again {i} {c = c} h f =
       let l = component-task g i h in
       let q = stand-of g (l .k) (l .element) (piece-at (l .piece)) in
       let e = component-is (l .element) (l .at) in
       run-again component-row component-word component-kind component-place component-sub (c .attributes) (suc (suc (q .0 + e .o))) (component-run (q .1 .piece) e) component-once f
 
-  source-again : {i p : ℕ} {c : Source} → At (sources g) i c → Names.Repeated source-word (c .attributes) p → Broken p
+  pub source-again : {i p : ℕ} {c : Source} → At (sources g) i c → Names.Repeated source-word (c .attributes) p → Broken p
   source-again {i} {c = c} h f =
       let l = source-task g i h in
       let q = stand-of g (l .k) (l .element) (piece-at (l .piece)) in
@@ -267,7 +267,7 @@ module _ (g : List TopLevel) (s : Sheet) (a : Agrees s (flatten g)) (shape : Sha
       go (no u) (yes v) = absurd (let z = in-order q p v in omega arith)
       go (no u) (no v) = absurd (let w : k ≡ m = omega arith in let z = one-piece (subst (λ (n : ℕ). Piece own-rows xs n o b) w p) q in let y = z .0 in omega arith)
 
-  task-again : {i p : ℕ} {t : Task} → At (tasks g) i t → Names.Repeated attribute-word (t .attributes) p → Broken p
+  pub task-again : {i p : ℕ} {t : Task} → At (tasks g) i t → Names.Repeated attribute-word (t .attributes) p → Broken p
   task-again {i} {t = t} h f =
       let q = stand-of g i t h in
       let j = q .0 in

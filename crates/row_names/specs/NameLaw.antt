@@ -1,4 +1,4 @@
--- Law: a row of a guideline breaks a rule on names exactly where section 6 and document 01 say so; repeated attributes stand in AttributeLaw.
+-- Law: a row of a guideline breaks a rule on names exactly where section 6 and document 01 say so (`to-row`, `from-row`).
 -- By the rows of tasks, items, components, sources and assignments, both ways.
 use Prim.Native.Nat.{ℕ, zero, suc, _+_, _-_, _≤_, _<_}
 use mathlib.Core.Path.{_≡_, refl, sym, ap, subst, _∙_}
@@ -30,12 +30,13 @@ use Rattle.row_names.specs.Selected.{Kept, kept-here, rise, rank-rise}
 use Rattle.row_names.specs.Shape.{Shaped}
 use Rattle.row_names.specs.Sheet
 use Sheet.{Sheet, task-kind, head-kind, once, Of, Same, Clear, Holds, Own, Beside, Reached, the-root, by-component, Bad, spot}
-use Sheet.{task-again, item-again, component-of-none, component-of-root, component-again, unreached, constraint-of-itself, constraint-of-none, target-of-none, source-of-none}
+use Sheet.{task-again, item-again, attribute-again, component-of-none, component-of-root, component-again, unreached, constraint-of-itself, constraint-of-none, target-of-none, source-of-none}
 use Rattle.row_names.specs.Flat
 use Flat.{body, top-rows, own-rows, attributes-each, at-placed, placed-at, sub-kind, Sub, placed-sub, component-sub, source-sub, named-kind, is-data, is-word, of-kind, of-kind-some, class-task, body-inside, head-row}
 use Flat.{task-names, item-names, component-names, source-names, target-names}
 use Rattle.row_names.specs.Agreement
 use Agreement.{Agrees, in-list, top-of, RowOf, row-of, one-row, one-rank, thing-row, Thing, row-thing, Stand, stand-of, row-at, inside-sheet}
+use Rattle.row_names.specs.AttributeLaw as AttributeLaw
 use Rattle.row_names.specs.Owners
 use Owners.{In, component-is, is-component, component-task, component-all, own-of, head-at, head-there, body-at, plain, InBody, in-body, generic-kind, generic-word}
 
@@ -360,3 +361,182 @@ module _ (g : List TopLevel) (s : Sheet) (a : Agrees s (flatten g)) (shape : Sha
       let x = held-component (q .3 .piece) c hold in
       let y = row-of g s a task-kind (p .kept) in
       Names.by-component (reach-from r (q .2) (q .3)) (q .2) (x .2) h (sym (x .3) ∙ e ∙ y .spelt)
+
+  -- ---- the law, to the rows
+
+  alike-rows : {x y z w : List ℕ} → x ≡ z → y ≡ w → Alike z w → Alike x y
+  alike-rows e f h = ap folded e ∙ h ∙ sym (ap folded f)
+
+  alike-names : {x y z w : List ℕ} → x ≡ z → y ≡ w → Alike x y → Alike z w
+  alike-names e f h = sym (ap folded e) ∙ h ∙ ap folded f
+
+  -- the row of a schedule constraint
+  module _ {i j l w : ℕ} {t : Task} {c : Component} {n : Name} (h : At (tasks g) i t) (k : At (components-of t) j c)
+      (x : At (c .attributes) l (record { word = w; what = schedule-constraint n })) where
+    constraint-piece : (q : ℕ) × Stand g i q t
+    constraint-piece = stand-of g i t h
+
+    abbrev constraint-index : ℕ
+    constraint-index = suc (constraint-piece .0 + (component-is t k .o + suc l))
+
+    constraint-body : At (body (task t)) (component-is t k .o + suc l) (with-name “schedule-constraint” w n)
+    constraint-body = own-attribute (constraint-piece .1 .piece) {c = c} (component-is t k) x
+
+    constraint-row : At (flatten g) constraint-index (with-name “schedule-constraint” w n)
+    constraint-row = body-at g s a (constraint-piece .1 .piece) constraint-body constraint-index refl
+
+    constraint-of : Of s “schedule-constraint” constraint-index
+    constraint-of = (inside-sheet g s a constraint-row, a .kind constraint-row)
+
+    constraint-spot : n .place ≡ spot s constraint-index
+    constraint-spot = named-spot constraint-index (ap once (a .kind constraint-row)) (a .place constraint-row refl)
+
+    to-itself : n .spelt ≡ c .named .spelt → (q : ℕ) × Bad s q × (n .place ≡ spot s q)
+    to-itself e =
+        let p = constraint-piece .1 .piece in
+        (constraint-index,
+        constraint-of-itself constraint-of (owned p {c = c} (component-is t k) x) (a .spelt constraint-row refl ∙ e ∙ sym (a .spelt (own-row p {c = c} (component-is t k)) refl)),
+        constraint-spot)
+
+    to-none : ((m : ℕ) (d : Component) → At (components-of t) m d → ¬ (n .spelt ≡ d .named .spelt)) → (q : ℕ) × Bad s q × (n .place ≡ spot s q)
+    to-none f =
+        let p = constraint-piece .1 .piece in
+        (constraint-index,
+        constraint-of-none constraint-of
+        (λ d b e. let y = held-component p d (held-beside p constraint-body refl (a .kind constraint-row) b) in f (y .0) (y .1) (y .2) (sym (a .spelt constraint-row refl) ∙ e ∙ y .3)),
+        constraint-spot)
+
+  -- no component, not reached
+  alone : {j : ℕ} {t : Task} → 0 < j → At (tasks g) j t → ((i : ℕ) (c : Component) → At (components g) i c → ¬ Names.Names c t) → ¬ Names.Reached g j
+  alone l h f Names.the-root = omega arith
+  alone l h f (Names.by-component {c = c} r pa ca ta e) =
+      let k = component-all g pa ca in
+      f (k .0) c (k .1) (e ∙ ap (λ (t : Task). t .named .spelt) (at-one ta h))
+
+  to-unreached : {j : ℕ} {t : Task} → At (tasks g) j t → ¬ Names.Reached g j → (q : ℕ) × Bad s q × (t .named .place ≡ spot s q)
+  to-unreached {j} {t} h f =
+      let p = stand-of g j t h in
+      let y = row-of g s a task-kind (p .1 .kept) in
+      (p .0, unreached (task-of y) (λ r. f (reach-from r h (p .1))), task-spot y)
+
+  pub to-row : {p : ℕ} → Names.NameBreach g p → (q : ℕ) × Bad s q × (p ≡ spot s q)
+  to-row (Names.task-twice l h k e) =
+      let x = task-row h in
+      let y = task-row k in
+      (y .0, task-again (rise (of-kind task-kind) (x .1 .kept) (y .1 .kept) l) (task-of (x .1)) (task-of (y .1)) (alike-rows (x .1 .spelt) (y .1 .spelt) e), task-spot (y .1))
+  to-row (Names.data-item-twice l h k e) =
+      let x = item-row h in
+      let y = item-row k in
+      (y .0, item-again (rise (of-kind is-data) (x .1 .kept) (y .1 .kept) l) (of-word (x .1)) (of-word (y .1)) (alike-rows (x .1 .spelt) (y .1 .spelt) e), word-spot “data” refl (y .1))
+  to-row (Names.task-attribute-twice h f) = AttributeLaw.task-again g s a shape h f
+  to-row (Names.component-attribute-twice h f) = AttributeLaw.component-again g s a shape h f
+  to-row (Names.source-attribute-twice h f) = AttributeLaw.source-again g s a shape h f
+  to-row (Names.data-attribute-twice h f) = AttributeLaw.data-again g s a shape h f
+  to-row (Names.component-of-no-task h f) =
+      let x = component-row-of h in
+      (x .0, component-of-none (of-word (x .1)) (λ t k e. let y = row-task t k in f (y .i) (y .thing) (y .at) (sym (x .1 .spelt) ∙ e ∙ y .row .spelt)), word-spot “component” refl (x .1))
+  to-row (Names.component-is-root h k e) =
+      let x = component-row-of h in
+      let n = ap (λ (t : Task). t .named .spelt) (at-one k (root-task (shape .first))) in
+      (x .0, component-of-root (of-word (x .1)) (x .1 .spelt ∙ e ∙ n ∙ sym (root-row .spelt)), word-spot “component” refl (x .1))
+  to-row (Names.component-twice l h k e) =
+      let x = component-row-of h in
+      let y = component-row-of k in
+      (y .0, component-again (rise (of-kind (is-word “component”)) (x .1 .kept) (y .1 .kept) l) (of-word (x .1)) (of-word (y .1)) (x .1 .spelt ∙ e ∙ sym (y .1 .spelt)), word-spot “component” refl (y .1))
+  to-row (Names.no-component l h f) = to-unreached h (alone l h f)
+  to-row (Names.not-reached h f) = to-unreached h f
+  to-row (Names.constraint-on-itself h k x e) = to-itself h k x e
+  to-row (Names.constraint-on-none h k x f) = to-none h k x f
+  to-row (Names.target-no-item h f) =
+      let x = target-row h in
+      (x .0, target-of-none (of-word (x .1)) (λ d k e. let y = row-item d k in f (y .i) (y .thing) (y .at) (alike-names (x .1 .spelt) (y .row .spelt) e)), word-spot “=” refl (x .1))
+  to-row (Names.source-no-item h f) =
+      let x = source-row-of h in
+      (x .0, source-of-none (of-word (x .1)) (λ d k e. let y = row-item d k in f (y .i) (y .thing) (y .at) (sym (x .1 .spelt) ∙ e ∙ y .row .spelt)), word-spot “source” refl (x .1))
+
+  -- ---- the law, from the rows
+
+  at-spot : {q p : ℕ} → p ≡ q → Names.NameBreach g p → Names.NameBreach g q
+  at-spot e b = subst (Names.NameBreach g) e b
+
+  -- a schedule constraint's row, in its task and component
+  module _ (q : ℕ) (h : Of s “schedule-constraint” q) where
+    constraint-at : (r : Row) × At (flatten g) q r
+    constraint-at = row-at g s a q (h .0)
+
+    constraint-in-task : InTask q (constraint-at .0)
+    constraint-in-task = constraint-task q (constraint-at .1) (sym (a .kind (constraint-at .1)) ∙ h .1)
+
+    constraint-own : Located own-rows (constraint-in-task .in-task .attributes) (constraint-in-task .m) (constraint-at .0)
+    constraint-own = own-of (constraint-in-task .in-task) (constraint-in-task .at)
+
+    constraint-is : AConstraint (constraint-own .element .what) (constraint-own .m) (constraint-at .0)
+    constraint-is = constraint-only (constraint-own .element .word) (constraint-own .element .what) (constraint-own .at) (sym (a .kind (constraint-at .1)) ∙ h .1)
+
+    abbrev its-component : Component
+    its-component = record { named = constraint-is .n; attributes = constraint-is .xs }
+
+    abbrev its-in : In (constraint-in-task .in-task) (component (constraint-is .n) (constraint-is .xs))
+    its-in = record { k = constraint-own .k; o = constraint-own .o; element = constraint-own .element; piece = constraint-own .piece; is = constraint-is .is }
+
+    its-task : (i : ℕ) × At (tasks g) i (constraint-in-task .in-task)
+    its-task = in-tasks (piece-at (constraint-in-task .piece))
+
+    its-place : (m : ℕ) × At (components-of (constraint-in-task .in-task)) m its-component
+    its-place = is-component (constraint-in-task .in-task) (constraint-is .n) (constraint-is .xs) (piece-at (constraint-own .piece)) (constraint-is .is)
+
+    its-spot : constraint-is .on .place ≡ spot s q
+    its-spot = named-spot q (ap once (h .1)) (a .place (constraint-at .1) (constraint-is .name))
+
+    its-index : q ≡ suc (constraint-in-task .j + (constraint-own .o + suc (constraint-is .l)))
+    its-index = let x = constraint-in-task .index in let y = constraint-own .index in let z = constraint-is .index in omega arith
+
+    from-itself : {c : ℕ} → Own s q c → Same s q c → Names.NameBreach g (spot s q)
+    from-itself {c} o e =
+        let p = constraint-in-task .piece in
+        let y = only-owner p {c = its-component} its-in (constraint-is .at) c (subst (λ (z : ℕ). Own s z c) its-index o) in
+        at-spot its-spot
+        (Names.constraint-on-itself (its-task .1) (its-place .1) (constraint-is .at)
+        (sym (a .spelt (constraint-at .1) (constraint-is .name)) ∙ e ∙ ap (s .spelt) y ∙ a .spelt (own-row p {c = its-component} its-in) refl))
+
+    from-none : ((c : ℕ) → Beside s q c → ¬ Same s q c) → Names.NameBreach g (spot s q)
+    from-none f =
+        let p = constraint-in-task .piece in
+        at-spot its-spot
+        (Names.constraint-on-none (its-task .1) (its-place .1) (constraint-is .at)
+        (λ m d k e. let y = component-held p k in
+        f (y .0) (beside-held p (constraint-in-task .at) (constraint-in-task .index) (y .1 .holds))
+        (a .spelt (constraint-at .1) (constraint-is .name) ∙ e ∙ sym (y .1 .spelt))))
+
+  pub from-row : {q : ℕ} → Bad s q → Names.NameBreach g (spot s q)
+  from-row {q} (task-again {i} l h k e) =
+      let x = row-task i h in
+      let y = row-task q k in
+      at-spot (task-spot (y .row)) (Names.task-twice (rank-rise (of-kind task-kind) (x .row .kept) (y .row .kept) l) (x .at) (y .at) (alike-names (x .row .spelt) (y .row .spelt) e))
+  from-row {q} (item-again {i} l h k e) =
+      let x = row-item i h in
+      let y = row-item q k in
+      at-spot (word-spot “data” refl (y .row)) (Names.data-item-twice (rank-rise (of-kind is-data) (x .row .kept) (y .row .kept) l) (x .at) (y .at) (alike-names (x .row .spelt) (y .row .spelt) e))
+  from-row (attribute-again l u o e f) = AttributeLaw.again-back g s a shape l u o e f
+  from-row {q} (component-of-none h f) =
+      let x = row-component q h in
+      at-spot (word-spot “component” refl (x .row))
+      (Names.component-of-no-task (x .at) (λ j t k e. let y = task-row k in f (y .0) (task-of (y .1)) (x .row .spelt ∙ e ∙ sym (y .1 .spelt))))
+  from-row {q} (component-of-root h e) =
+      let x = row-component q h in
+      at-spot (word-spot “component” refl (x .row)) (Names.component-is-root (x .at) (root-task (shape .first)) (sym (x .row .spelt) ∙ e ∙ root-row .spelt))
+  from-row {q} (component-again {i} l h k e) =
+      let x = row-component i h in
+      let y = row-component q k in
+      at-spot (word-spot “component” refl (y .row)) (Names.component-twice (rank-rise (of-kind (is-word “component”)) (x .row .kept) (y .row .kept) l) (x .at) (y .at) (sym (x .row .spelt) ∙ e ∙ y .row .spelt))
+  from-row {q} (unreached h f) =
+      let p = stand-row q h in
+      at-spot (task-spot (row-of g s a task-kind (p .3 .kept))) (Names.not-reached (p .2) (λ r. f (reach-to r (p .2) (p .3))))
+  from-row {q} (constraint-of-itself h o e) = from-itself q h o e
+  from-row {q} (constraint-of-none h f) = from-none q h f
+  from-row {q} (target-of-none h f) =
+      let x = row-target q h in
+      at-spot (word-spot “=” refl (x .row)) (Names.target-no-item (x .at) (λ j d k e. let y = item-row k in f (y .0) (of-word (y .1)) (alike-rows (x .row .spelt) (y .1 .spelt) e)))
+  from-row {q} (source-of-none h f) =
+      let x = row-source q h in
+      at-spot (word-spot “source” refl (x .row)) (Names.source-no-item (x .at) (λ j d k e. let y = item-row k in f (y .0) (of-word (y .1)) (x .row .spelt ∙ e ∙ sym (y .1 .spelt))))
