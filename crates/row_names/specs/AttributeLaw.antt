@@ -25,7 +25,7 @@ use Rows.{Row, generic-row, component-row, source-row, placed-rows, attribute-ro
 use Rattle.row_names.specs.Pieces.{Piece, at-piece, piece-at, in-whole, in-order, one-piece, Located}
 use Rattle.row_names.specs.Shape.{Shaped, is-generic}
 use Rattle.row_names.specs.Sheet
-use Sheet.{Sheet, head-kind, once, inner, parts-from, Bad, attribute-again, spot}
+use Sheet.{Sheet, head-kind, once, inner, parts-from, Bad, flawed, attribute-again, spot}
 use Rattle.row_names.specs.Flat
 use Flat.{body, top-rows, own-rows, attributes-each, at-placed, placed-at, sub-kind, Sub, generic-sub, component-sub, source-sub, body-inside, head-is-head}
 use Rattle.row_names.specs.Agreement
@@ -161,7 +161,7 @@ module _ (g : List TopLevel) (s : Sheet) (a : Agrees s (flatten g)) (shape : Sha
   again {i} {j} {p} {q = q} l h k e o w f =
       let z = a .kind k in (
         j,
-        attribute-again l (inside-sheet g s a k) (ap once z ∙ o) (a .kind h ∙ e ∙ sym z) (λ m u v. subst (λ (n : ℕ). parts-from n (s .kind m) ≡ false) (sym z) (f m u v)),
+        flawed (attribute-again l (inside-sheet g s a k) (ap once z ∙ o) (a .kind h ∙ e ∙ sym z) (λ m u v. subst (λ (n : ℕ). parts-from n (s .kind m) ≡ false) (sym z) (f m u v))),
         rw (ap once z ∙ o) (sym (a .word k ∙ w)),
       )
 

@@ -29,8 +29,8 @@ use Rattle.row_names.specs.Pieces.{Piece, piece-at, in-whole, Located}
 use Rattle.row_names.specs.Selected.{Kept, kept-here, rise, rank-rise}
 use Rattle.row_names.specs.Shape.{Shaped}
 use Rattle.row_names.specs.Sheet
-use Sheet.{Sheet, task-kind, head-kind, once, Of, Same, Clear, Holds, Own, Beside, Reached, the-root, by-component, Bad, spot}
-use Sheet.{task-again, item-again, attribute-again, component-of-none, component-of-root, component-again, unreached, constraint-of-itself, constraint-of-none, target-of-none, source-of-none}
+use Sheet.{Sheet, task-kind, head-kind, once, Of, Same, Clear, Holds, Own, Beside, Reached, the-root, by-component, Flaw, Bad, flawed, unreached, spot}
+use Sheet.{task-again, item-again, attribute-again, component-of-none, component-of-root, component-again, constraint-of-itself, constraint-of-none, target-of-none, source-of-none}
 use Rattle.row_names.specs.Flat
 use Flat.{body, top-rows, own-rows, attributes-each, at-placed, placed-at, sub-kind, Sub, placed-sub, component-sub, source-sub, named-kind, is-data, is-word, of-kind, of-kind-some, class-task, body-inside, head-row}
 use Flat.{task-names, item-names, component-names, source-names, target-names}
@@ -395,15 +395,15 @@ module _ (g : List TopLevel) (s : Sheet) (a : Agrees s (flatten g)) (shape : Sha
     to-itself e =
         let p = constraint-piece .1 .piece in
         (constraint-index,
-        constraint-of-itself constraint-of (owned p {c = c} (component-is t k) x) (a .spelt constraint-row refl ∙ e ∙ sym (a .spelt (own-row p {c = c} (component-is t k)) refl)),
+        flawed (constraint-of-itself constraint-of (owned p {c = c} (component-is t k) x) (a .spelt constraint-row refl ∙ e ∙ sym (a .spelt (own-row p {c = c} (component-is t k)) refl))),
         constraint-spot)
 
     to-none : ((m : ℕ) (d : Component) → At (components-of t) m d → ¬ (n .spelt ≡ d .named .spelt)) → (q : ℕ) × Bad s q × (n .place ≡ spot s q)
     to-none f =
         let p = constraint-piece .1 .piece in
         (constraint-index,
-        constraint-of-none constraint-of
-        (λ d b e. let y = held-component p d (held-beside p constraint-body refl (a .kind constraint-row) b) in f (y .0) (y .1) (y .2) (sym (a .spelt constraint-row refl) ∙ e ∙ y .3)),
+        flawed (constraint-of-none constraint-of
+        (λ d b e. let y = held-component p d (held-beside p constraint-body refl (a .kind constraint-row) b) in f (y .0) (y .1) (y .2) (sym (a .spelt constraint-row refl) ∙ e ∙ y .3))),
         constraint-spot)
 
   -- no component, not reached
@@ -423,36 +423,36 @@ module _ (g : List TopLevel) (s : Sheet) (a : Agrees s (flatten g)) (shape : Sha
   to-row (Names.task-twice l h k e) =
       let x = task-row h in
       let y = task-row k in
-      (y .0, task-again (rise (of-kind task-kind) (x .1 .kept) (y .1 .kept) l) (task-of (x .1)) (task-of (y .1)) (alike-rows (x .1 .spelt) (y .1 .spelt) e), task-spot (y .1))
+      (y .0, flawed (task-again (rise (of-kind task-kind) (x .1 .kept) (y .1 .kept) l) (task-of (x .1)) (task-of (y .1)) (alike-rows (x .1 .spelt) (y .1 .spelt) e)), task-spot (y .1))
   to-row (Names.data-item-twice l h k e) =
       let x = item-row h in
       let y = item-row k in
-      (y .0, item-again (rise (of-kind is-data) (x .1 .kept) (y .1 .kept) l) (of-word (x .1)) (of-word (y .1)) (alike-rows (x .1 .spelt) (y .1 .spelt) e), word-spot “data” refl (y .1))
+      (y .0, flawed (item-again (rise (of-kind is-data) (x .1 .kept) (y .1 .kept) l) (of-word (x .1)) (of-word (y .1)) (alike-rows (x .1 .spelt) (y .1 .spelt) e)), word-spot “data” refl (y .1))
   to-row (Names.task-attribute-twice h f) = AttributeLaw.task-again g s a shape h f
   to-row (Names.component-attribute-twice h f) = AttributeLaw.component-again g s a shape h f
   to-row (Names.source-attribute-twice h f) = AttributeLaw.source-again g s a shape h f
   to-row (Names.data-attribute-twice h f) = AttributeLaw.data-again g s a shape h f
   to-row (Names.component-of-no-task h f) =
       let x = component-row-of h in
-      (x .0, component-of-none (of-word (x .1)) (λ t k e. let y = row-task t k in f (y .i) (y .thing) (y .at) (sym (x .1 .spelt) ∙ e ∙ y .row .spelt)), word-spot “component” refl (x .1))
+      (x .0, flawed (component-of-none (of-word (x .1)) (λ t k e. let y = row-task t k in f (y .i) (y .thing) (y .at) (sym (x .1 .spelt) ∙ e ∙ y .row .spelt))), word-spot “component” refl (x .1))
   to-row (Names.component-is-root h k e) =
       let x = component-row-of h in
       let n = ap (λ (t : Task). t .named .spelt) (at-one k (root-task (shape .first))) in
-      (x .0, component-of-root (of-word (x .1)) (x .1 .spelt ∙ e ∙ n ∙ sym (root-row .spelt)), word-spot “component” refl (x .1))
+      (x .0, flawed (component-of-root (of-word (x .1)) (x .1 .spelt ∙ e ∙ n ∙ sym (root-row .spelt))), word-spot “component” refl (x .1))
   to-row (Names.component-twice l h k e) =
       let x = component-row-of h in
       let y = component-row-of k in
-      (y .0, component-again (rise (of-kind (is-word “component”)) (x .1 .kept) (y .1 .kept) l) (of-word (x .1)) (of-word (y .1)) (x .1 .spelt ∙ e ∙ sym (y .1 .spelt)), word-spot “component” refl (y .1))
+      (y .0, flawed (component-again (rise (of-kind (is-word “component”)) (x .1 .kept) (y .1 .kept) l) (of-word (x .1)) (of-word (y .1)) (x .1 .spelt ∙ e ∙ sym (y .1 .spelt))), word-spot “component” refl (y .1))
   to-row (Names.no-component l h f) = to-unreached h (alone l h f)
   to-row (Names.not-reached h f) = to-unreached h f
   to-row (Names.constraint-on-itself h k x e) = to-itself h k x e
   to-row (Names.constraint-on-none h k x f) = to-none h k x f
   to-row (Names.target-no-item h f) =
       let x = target-row h in
-      (x .0, target-of-none (of-word (x .1)) (λ d k e. let y = row-item d k in f (y .i) (y .thing) (y .at) (alike-names (x .1 .spelt) (y .row .spelt) e)), word-spot “=” refl (x .1))
+      (x .0, flawed (target-of-none (of-word (x .1)) (λ d k e. let y = row-item d k in f (y .i) (y .thing) (y .at) (alike-names (x .1 .spelt) (y .row .spelt) e))), word-spot “=” refl (x .1))
   to-row (Names.source-no-item h f) =
       let x = source-row-of h in
-      (x .0, source-of-none (of-word (x .1)) (λ d k e. let y = row-item d k in f (y .i) (y .thing) (y .at) (sym (x .1 .spelt) ∙ e ∙ y .row .spelt)), word-spot “source” refl (x .1))
+      (x .0, flawed (source-of-none (of-word (x .1)) (λ d k e. let y = row-item d k in f (y .i) (y .thing) (y .at) (sym (x .1 .spelt) ∙ e ∙ y .row .spelt))), word-spot “source” refl (x .1))
 
   -- ---- the law, from the rows
 
@@ -508,35 +508,38 @@ module _ (g : List TopLevel) (s : Sheet) (a : Agrees s (flatten g)) (shape : Sha
         f (y .0) (beside-held p (constraint-in-task .at) (constraint-in-task .index) (y .1 .holds))
         (a .spelt (constraint-at .1) (constraint-is .name) ∙ e ∙ sym (y .1 .spelt))))
 
-  pub from-row : {q : ℕ} → Bad s q → Names.NameBreach g (spot s q)
-  from-row {q} (task-again {i} l h k e) =
+  from-flaw : {q : ℕ} → Flaw s q → Names.NameBreach g (spot s q)
+  from-flaw {q} (task-again {i} l h k e) =
       let x = row-task i h in
       let y = row-task q k in
       at-spot (task-spot (y .row)) (Names.task-twice (rank-rise (of-kind task-kind) (x .row .kept) (y .row .kept) l) (x .at) (y .at) (alike-names (x .row .spelt) (y .row .spelt) e))
-  from-row {q} (item-again {i} l h k e) =
+  from-flaw {q} (item-again {i} l h k e) =
       let x = row-item i h in
       let y = row-item q k in
       at-spot (word-spot “data” refl (y .row)) (Names.data-item-twice (rank-rise (of-kind is-data) (x .row .kept) (y .row .kept) l) (x .at) (y .at) (alike-names (x .row .spelt) (y .row .spelt) e))
-  from-row (attribute-again l u o e f) = AttributeLaw.again-back g s a shape l u o e f
-  from-row {q} (component-of-none h f) =
+  from-flaw (attribute-again l u o e f) = AttributeLaw.again-back g s a shape l u o e f
+  from-flaw {q} (component-of-none h f) =
       let x = row-component q h in
       at-spot (word-spot “component” refl (x .row))
       (Names.component-of-no-task (x .at) (λ j t k e. let y = task-row k in f (y .0) (task-of (y .1)) (x .row .spelt ∙ e ∙ sym (y .1 .spelt))))
-  from-row {q} (component-of-root h e) =
+  from-flaw {q} (component-of-root h e) =
       let x = row-component q h in
       at-spot (word-spot “component” refl (x .row)) (Names.component-is-root (x .at) (root-task (shape .first)) (sym (x .row .spelt) ∙ e ∙ root-row .spelt))
-  from-row {q} (component-again {i} l h k e) =
+  from-flaw {q} (component-again {i} l h k e) =
       let x = row-component i h in
       let y = row-component q k in
       at-spot (word-spot “component” refl (y .row)) (Names.component-twice (rank-rise (of-kind (is-word “component”)) (x .row .kept) (y .row .kept) l) (x .at) (y .at) (sym (x .row .spelt) ∙ e ∙ y .row .spelt))
+  from-flaw {q} (constraint-of-itself h o e) = from-itself q h o e
+  from-flaw {q} (constraint-of-none h f) = from-none q h f
+  from-flaw {q} (target-of-none h f) =
+      let x = row-target q h in
+      at-spot (word-spot “=” refl (x .row)) (Names.target-no-item (x .at) (λ j d k e. let y = item-row k in f (y .0) (of-word (y .1)) (alike-rows (x .row .spelt) (y .1 .spelt) e)))
+  from-flaw {q} (source-of-none h f) =
+      let x = row-source q h in
+      at-spot (word-spot “source” refl (x .row)) (Names.source-no-item (x .at) (λ j d k e. let y = item-row k in f (y .0) (of-word (y .1)) (x .row .spelt ∙ e ∙ sym (y .1 .spelt))))
+
+  pub from-row : {q : ℕ} → Bad s q → Names.NameBreach g (spot s q)
+  from-row (flawed f) = from-flaw f
   from-row {q} (unreached h f) =
       let p = stand-row q h in
       at-spot (task-spot (row-of g s a task-kind (p .3 .kept))) (Names.not-reached (p .2) (λ r. f (reach-to r (p .2) (p .3))))
-  from-row {q} (constraint-of-itself h o e) = from-itself q h o e
-  from-row {q} (constraint-of-none h f) = from-none q h f
-  from-row {q} (target-of-none h f) =
-      let x = row-target q h in
-      at-spot (word-spot “=” refl (x .row)) (Names.target-no-item (x .at) (λ j d k e. let y = item-row k in f (y .0) (of-word (y .1)) (alike-rows (x .row .spelt) (y .1 .spelt) e)))
-  from-row {q} (source-of-none h f) =
-      let x = row-source q h in
-      at-spot (word-spot “source” refl (x .row)) (Names.source-no-item (x .at) (λ j d k e. let y = item-row k in f (y .0) (of-word (y .1)) (x .row .spelt ∙ e ∙ sym (y .1 .spelt))))

@@ -72,20 +72,24 @@ module _ (s : Sheet) where
     the-root : Reached 0
     by-component : {i j c : ℕ} → Reached i → Task i → Holds i c → Task j → Same c j → Reached j
 
-  -- the row breaks a rule
-  pub data Bad (j : ℕ) : Type 0 where
-    task-again : {i : ℕ} → i < j → Task i → Task j → Alike (s .spelt i) (s .spelt j) → Bad j
-    item-again : {i : ℕ} → i < j → Of “data” i → Of “data” j → Alike (s .spelt i) (s .spelt j) → Bad j
+  -- the row breaks a rule on its own name or word
+  pub data Flaw (j : ℕ) : Type 0 where
+    task-again : {i : ℕ} → i < j → Task i → Task j → Alike (s .spelt i) (s .spelt j) → Flaw j
+    item-again : {i : ℕ} → i < j → Of “data” i → Of “data” j → Alike (s .spelt i) (s .spelt j) → Flaw j
     attribute-again : {i : ℕ} → i < j → j < s .count → once (s .kind j) ≡ true → s .kind i ≡ s .kind j
-        → ((m : ℕ) → i < m → m < j → parts-from (s .kind j) (s .kind m) ≡ false) → Bad j
-    component-of-none : Of “component” j → ((t : ℕ) → Task t → ¬ Same j t) → Bad j
-    component-of-root : Of “component” j → Same j 0 → Bad j
-    component-again : {i : ℕ} → i < j → Of “component” i → Of “component” j → Same i j → Bad j
+        → ((m : ℕ) → i < m → m < j → parts-from (s .kind j) (s .kind m) ≡ false) → Flaw j
+    component-of-none : Of “component” j → ((t : ℕ) → Task t → ¬ Same j t) → Flaw j
+    component-of-root : Of “component” j → Same j 0 → Flaw j
+    component-again : {i : ℕ} → i < j → Of “component” i → Of “component” j → Same i j → Flaw j
+    constraint-of-itself : {c : ℕ} → Of “schedule-constraint” j → Own j c → Same j c → Flaw j
+    constraint-of-none : Of “schedule-constraint” j → ((c : ℕ) → Beside j c → ¬ Same j c) → Flaw j
+    target-of-none : Of “=” j → ((d : ℕ) → Of “data” d → ¬ Alike (s .spelt j) (s .spelt d)) → Flaw j
+    source-of-none : Of “source” j → ((d : ℕ) → Of “data” d → ¬ Same j d) → Flaw j
+
+  -- or is a task that is not reached from the root
+  pub data Bad (j : ℕ) : Type 0 where
+    flawed : Flaw j → Bad j
     unreached : Task j → ¬ Reached j → Bad j
-    constraint-of-itself : {c : ℕ} → Of “schedule-constraint” j → Own j c → Same j c → Bad j
-    constraint-of-none : Of “schedule-constraint” j → ((c : ℕ) → Beside j c → ¬ Same j c) → Bad j
-    target-of-none : Of “=” j → ((d : ℕ) → Of “data” d → ¬ Alike (s .spelt j) (s .spelt d)) → Bad j
-    source-of-none : Of “source” j → ((d : ℕ) → Of “data” d → ¬ Same j d) → Bad j
 
   -- the place of the breach: the repeated attribute's word, or the name
   abbrev pub spot : ℕ → ℕ
