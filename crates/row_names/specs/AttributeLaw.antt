@@ -329,7 +329,6 @@ module _ (g : List TopLevel) (s : Sheet) (a : Agrees s (flatten g)) (shape : Sha
         (Names.data-attribute-twice (in-items (piece-at p) .1)
         (run-back generic-row generic-word generic-kind generic-place generic-sub (d .attributes) (suc q) (item-run p) v l (omega arith) (y .at) e o))
 
-
     module _ (m : ℕ) {k q : ℕ} {t : Task} {r : Row} (p : Piece top-rows g k q (task t)) (f : j ≡ suc (q + m)) (w : At (flatten g) j r) where
       in-list-of-tasks : (i : ℕ) × At (tasks g) i t
       in-list-of-tasks = in-tasks (piece-at p)

@@ -231,11 +231,13 @@ module _ (g : List TopLevel) (s : Sheet) (a : Agrees s (flatten g)) (shape : Sha
         let e = component-is t h in
         let b : At (body (task t)) (e .o + 0) (with-name “component” (e .element .word) (c .named)) = own-body e at-first in
         let q = suc (j + (e .o + 0)) in
-        let f = body-at g s a p b q refl in
-        (q, record {
-          holds = (omega arith, (inside-sheet g s a f, a .kind f), λ m l u. clear-to b m l (omega arith));
-          spelt = a .spelt f refl;
-        })
+        let f = body-at g s a p b q refl in (
+          q,
+          record {
+            holds = (omega arith, (inside-sheet g s a f, a .kind f), λ m l u. clear-to b m l (omega arith));
+            spelt = a .spelt f refl;
+          },
+        )
 
     -- a row of a component in the plan's rows
     component-here : {m : ℕ} {r : Row} (q : ℕ) → At (body (task t)) m r → q ≡ suc (j + m) → s .kind q ≡ “component”
@@ -393,18 +395,20 @@ module _ (g : List TopLevel) (s : Sheet) (a : Agrees s (flatten g)) (shape : Sha
 
     to-itself : n .spelt ≡ c .named .spelt → (q : ℕ) × Bad s q × (n .place ≡ spot s q)
     to-itself e =
-        let p = constraint-piece .1 .piece in
-        (constraint-index,
-        flawed (constraint-of-itself constraint-of (owned p {c = c} (component-is t k) x) (a .spelt constraint-row refl ∙ e ∙ sym (a .spelt (own-row p {c = c} (component-is t k)) refl))),
-        constraint-spot)
+        let p = constraint-piece .1 .piece in (
+          constraint-index,
+          flawed (constraint-of-itself constraint-of (owned p {c = c} (component-is t k) x) (a .spelt constraint-row refl ∙ e ∙ sym (a .spelt (own-row p {c = c} (component-is t k)) refl))),
+          constraint-spot,
+        )
 
     to-none : ((m : ℕ) (d : Component) → At (components-of t) m d → ¬ (n .spelt ≡ d .named .spelt)) → (q : ℕ) × Bad s q × (n .place ≡ spot s q)
     to-none f =
-        let p = constraint-piece .1 .piece in
-        (constraint-index,
-        flawed (constraint-of-none constraint-of
-        (λ d b e. let y = held-component p d (held-beside p constraint-body refl (a .kind constraint-row) b) in f (y .0) (y .1) (y .2) (sym (a .spelt constraint-row refl) ∙ e ∙ y .3))),
-        constraint-spot)
+        let p = constraint-piece .1 .piece in (
+          constraint-index,
+          flawed (constraint-of-none constraint-of
+              (λ d b e. let y = held-component p d (held-beside p constraint-body refl (a .kind constraint-row) b) in f (y .0) (y .1) (y .2) (sym (a .spelt constraint-row refl) ∙ e ∙ y .3))),
+          constraint-spot,
+        )
 
   -- no component, not reached
   alone : {j : ℕ} {t : Task} → 0 < j → At (tasks g) j t → ((i : ℕ) (c : Component) → At (components g) i c → ¬ Names.Names c t) → ¬ Names.Reached g j

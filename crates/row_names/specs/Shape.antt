@@ -65,10 +65,12 @@ module _ (gs : List (Placed Generic)) (xs : List (Placed Attribute)) (plain : (i
       (at-either (map lead gs) k)
 
   leading : Leads (map lead gs ++ xs)
-  leading = record { before = λ l h k e. ⊎-elim
-      (λ p. let r = map-at lead gs p in ap (λ (x : Placed Attribute). is-generic (x .what)) (r .is))
-      (λ p. absurd (not-behind l k e p))
-      (at-either (map lead gs) h) }
+  leading = record {
+    before = λ l h k e. ⊎-elim
+        (λ p. let r = map-at lead gs p in ap (λ (x : Placed Attribute). is-generic (x .what)) (r .is))
+        (λ p. absurd (not-behind l k e p))
+        (at-either (map lead gs) h);
+  }
 
 task-leads : {w r : List Token} {t : Task} → TaskAt w r t → Leads (t .attributes)
 task-leads (a-task {gs = gs} {xs = xs} n g a e f d) = leading gs xs (λ i b h. rest-plain a h)
