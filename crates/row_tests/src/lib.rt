@@ -4,3 +4,9 @@ pub mod cells;
 pub mod kinds;
 pub mod search;
 pub mod texts;
+
+// The smallest place at which something is broken, or that nothing is.
+pub enum Found {
+    At(usize),
+    Nowhere,
+}
