@@ -135,7 +135,8 @@ pub data Adds (g : List TopLevel) : Component → Property → RowValue → Type
   -- 12.8, 7. Add the row (CS, data_item, D)
   source-7 : {c n d : ℕ} {s : Source} {x : DataItem} → InstantiateSource g c s n → InstantiateDataItem g x d → x .named .spelt ≡ s .named .spelt
       → Adds g (source № n) data-item-of (component-is (data-item № d))
-  -- 12.8, 8. Table 4: "mandatory" "::" "yes", (CS, mandatory, true); "no", (CS, mandatory, false)      (01: captions and descriptions get no rows)
+  -- 12.8, 8. Table 4: "mandatory" "::" "yes", (C, mandatory, true); "no", (C, mandatory, false)      (decided: on the source CS, where 8.6.4, 2 asks for it)
+  --   (01: captions and descriptions get no rows)
   source-8 : {c n k w : ℕ} {s : Source} {b : Bool} → InstantiateSource g c s n → At (s .attributes) k (record { word = w; what = Structure.mandatory b })
       → Adds g (source № n) mandatory (truth-row b)
   -- 12.9, 3. Add the row (C, class, data_item)

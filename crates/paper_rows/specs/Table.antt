@@ -13,7 +13,7 @@ use Rattle.paper_expressions.specs.Expressions.{Expr}
 use Rattle.paper_expressions.specs.View.{Item, View, At}
 use Rattle.paper_expressions.specs.View as Views
 
--- ---- 7.1, b: component identifiers; 01: "Components are given by kind and number", "kinds rank as in section 10"      (decided: tasks first)
+-- ---- 7.1, b: component identifiers; 01: "Components are given by kind and number", "kinds rank as in section 10"
 
 pub data Kind : Type 0 where
   task data-item candidate argument parameter source warning-condition : Kind

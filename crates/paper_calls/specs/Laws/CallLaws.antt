@@ -134,9 +134,18 @@ module _ {g : List TopLevel} {t t′ : Table} {N : Sets} (good : GoodTable g t) 
         timely = record { times = λ {c} {p} e. times-after (sets c p) e };
       }
 
+-- so the table stays kept
+pub sets-kept : {g : List TopLevel} {t t′ : Table} {N : Sets} → Kept g t → Mild g t N → Replaces N t t′ → Kept g t′
+sets-kept {N = N} k mild sets = after-kept k (mild .harmless) (λ c p. after (sets c p))
+  where
+    after : {c : Component} {p : Property} {o o′ : Option RowValue} → Replaced N c p o o′ → After (λ c p r. N c p (some r)) c p o o′
+    after (replaced {after = none} h) = absurd (mild .never-none h)
+    after (replaced {after = some r} h) = becomes h
+    after (kept n) = stays
+
 -- ---- each call's rows are mild
 
-confirm-mild : {g : List TopLevel} {t : Table} {T : ℕ} → Kept g t → TaskId t T → Mild g t (ConfirmTask T)
+pub confirm-mild : {g : List TopLevel} {t : Table} {T : ℕ} → Kept g t → TaskId t T → Mild g t (ConfirmTask T)
 confirm-mild {g} {t} {T} k i =
     record {
       never-none = λ h. elim h [ ];
@@ -184,7 +193,7 @@ small-within (small-list {l} h f) = let k = each-small l f in record { limited =
 item-defined : {g : List TopLevel} {d : ℕ} {r : RowValue} → Adds g (data-item № d) Table.class r → There g (data-item № d)
 item-defined (data-item-3 h) = item-there h
 
-add-mild : {g : List TopLevel} {t : Table} {d : ℕ} {w : Value} {k : Declared} → Kept g t → DataItemId t d → Contains t (data-item № d) type (type-is k) → Of w (inferred k) → Small w → Mild g t (AddDataValue d w)
+pub add-mild : {g : List TopLevel} {t : Table} {d : ℕ} {w : Value} {k : Declared} → Kept g t → DataItemId t d → Contains t (data-item № d) type (type-is k) → Of w (inferred k) → Small w → Mild g t (AddDataValue d w)
 add-mild {g} {t} {d} {w} {k} q i h o s =
     record {
       never-none = λ x. elim x [ ];
@@ -214,7 +223,7 @@ add-mild {g} {t} {d} {w} {k} q i h o s =
     small : {e : ℕ} {v : Value} → AddDataValue d w (data-item № e) value (some (value-is v)) → Limit.Within v
     small add-2a = small-within s
 
-trigger-mild : {g : List TopLevel} {t : Table} (trig : List ℕ) → Kept g t → Mild g t (SendTrigger t trig)
+pub trigger-mild : {g : List TopLevel} {t : Table} (trig : List ℕ) → Kept g t → Mild g t (SendTrigger t trig)
 trigger-mild {g} {t} trig k =
     record {
       never-none = λ h. elim h [ ];

@@ -14,12 +14,14 @@ use Rattle.paper_guideline.specs.Structure.{TopLevel}
 use Rattle.paper_guideline.specs.Parts.{Role, condition, wording, assigned-to, Typed, expressions}
 use Rattle.paper_guideline.specs.Limits.{task-limit, assignment-limit, source-limit}
 use Rattle.paper_guideline.specs.Refusals.{Fitting, fits-condition, fits-wording, fits-assigned, declared-items}
-use Rattle.paper_rows.specs.Table.{Component, Property, RowValue, Table, Contains, Allowed, ViewOf}
+use Rattle.paper_rows.specs.Table.{Component, Property, RowValue, Table, Contains, TaskId, Allowed, ViewOf}
 use Rattle.paper_rows.specs.Laws.Lawful.{Lawful}
 use Rattle.paper_rows.specs.Laws.RowLists.{Row, Listed}
-use Rattle.paper_engine.specs.Operations.{Changes}
+use Rattle.paper_engine.specs.Operations.{Clause, Review, Changes}
 use Rattle.paper_engine.specs.Cycle.{Rows}
 use Rattle.paper_engine.specs.Laws.Kept.{There, Kept, viewF, view-of, view-sound, same-items, one-view}
+use Rattle.paper_engine.specs.Laws.Twins.{reviewF}
+use Rattle.paper_engine.specs.Laws.ReviewLaws.{review-one}
 use Rattle.paper_engine.specs.Laws.RowsLaws.{changesF, changes-listed, few-rows}
 use Rattle.paper_engine.specs.Laws.RowFacts.{every-allowed, every-there}
 use Rattle.paper_calls.specs.Calls
@@ -99,6 +101,14 @@ a-view h = go (series-good h)
   where
     go : {g : Guideline} → Good (loaded g) → (v : View) × ViewOf (g .table) v
     go (good-loaded {g} l z t m) = (viewF (g .structure) (g .table), view-of l (t .kept))
+
+-- ---- every task: exactly one clause of Review fits
+
+pub one-review : {g : Guideline} {T : ℕ} → Series (loaded g) → (now : ℕ) → TaskId (g .table) T → (c : Clause) × Review (g .table) now T c × ((d : Clause) → Review (g .table) now T d → d ≡ c)
+one-review {T = T} h now i = go (series-good h) i
+  where
+    go : {g : Guideline} → Good (loaded g) → TaskId (g .table) T → (c : Clause) × Review (g .table) now T c × ((d : Clause) → Review (g .table) now T d → d ≡ c)
+    go (good-loaded {g} l z t m) i = let k = review-one l (t .kept) now i in (reviewF (g .structure) (g .table) now T, k .fits, λ d r. k .only r)
 
 -- ---- every row
 

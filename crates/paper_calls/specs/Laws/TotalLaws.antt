@@ -1,4 +1,4 @@
--- Law: in a good state every call has a reply, load included where reading has an answer. With CallLaws: exactly one. And the lent Changes table is left in one way.
+-- Law: every call has exactly one reply and state behind it, in every state that a series of calls reaches and for every argument, load included; and a run leaves the lent Changes table in one way.
 use Prim.Native.Nat.{ℕ, zero, suc, _≤_, _<_}
 use native.Mathlib.Omega.{arith}
 use native.Mathlib.Decide.{decLe, decLt}
@@ -17,6 +17,7 @@ use Rattle.paper_expressions.specs.Laws.Soundness.{of?}
 use Rattle.paper_expressions.specs.View.{At, at-first, at-later}
 use Rattle.paper_guideline.specs.Structure.{TopLevel, DataItem, tasks, data-items}
 use Rattle.paper_guideline.specs.Refusals.{Read, Answer, loads, refused, Answers, is-loaded, is-refused}
+use Rattle.paper_guideline.specs.Laws.AnswerLaws.{exactly-one-answer}
 use Rattle.paper_rows.specs.Table
 use Table.{Kind, kinds, task, data-item, Component, _№_, Property, properties, class, state, trigger, parent-plan, type, trigger-active, confirmed, value, requested, TaskClass, generic-is-task, plan-is-task, enquiry-is-task, decision-is-task, action-is-task}
 use Table.{Class, a-data-item, a-generic-task, a-plan, a-decision, an-enquiry, an-action, a-source, a-candidate, a-parameter, a-warning-flag}
@@ -339,9 +340,9 @@ only-reply h = record { reply = h .reply; after = h .after; its = h .its; only =
 pub one-reply : {c : Call} {s : State} → Series s → NotLoad c → OneReply c s
 one-reply h n = only-reply (call-replies (series-good h) n)
 
--- of a load, in any state, for every text that reading has an answer for
-pub one-load : {Short : Type 0} {text : List ℕ} {a : Answer} (s : State) → Answers Short text a → OneReply (load text Short) s
-one-load s h = only-reply (load-replies s h)
+-- of a load, in any state, for every text; whether a lent table is too short is decided
+pub one-load : {Short : Type 0} → Dec Short → (text : List ℕ) (s : State) → OneReply (load text Short) s
+one-load short b s = only-reply (load-replies s (exactly-one-answer short b .fits))
 
 -- ---- the lent Changes table is left in one way
 

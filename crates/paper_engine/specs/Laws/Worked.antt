@@ -33,39 +33,39 @@ use Rattle.paper_engine.specs.Laws.EnactLaws.{enactF, collisionF, runF, 
 
 -- ---- how a guideline is written here
 
-abbrev called : String → Name
+abbrev pub called : String → Name
 called s = record { spelt = bytes s; place = 0 }
 
-abbrev expr : Expr → Outermost
+abbrev pub expr : Expr → Outermost
 expr e = record { start = 0; tree = e }
 
-abbrev placed : {A : Type 0} → A → Placed A
+abbrev pub placed : {A : Type 0} → A → Placed A
 placed a = record { word = 0; what = a }
 
-abbrev define : Class → String → List Attribute → TopLevel
+abbrev pub define : Class → String → List Attribute → TopLevel
 define k s l = Structure.task (record { class = k; named = called s; attributes = map placed l })
 
-abbrev part : String → List ComponentAttribute → Attribute
+abbrev pub part : String → List ComponentAttribute → Attribute
 part s l = Structure.component (called s) (map placed l)
 
-abbrev after : String → ComponentAttribute
+abbrev pub after : String → ComponentAttribute
 after s = schedule-constraint (called s)
 
 -- ---- what is shown: the states of the tasks, 0 dormant, 1 in_progress, 2 discarded, 3 completed
 
-abbrev rankF : Option TaskState → ℕ
+abbrev pub rankF : Option TaskState → ℕ
 rankF none = 4
 rankF (some s) = state-rank s
 
-abbrev numbersF : {A : Type 0} → ℕ → List A → List ℕ
+abbrev pub numbersF : {A : Type 0} → ℕ → List A → List ℕ
 numbersF n [] = []
 numbersF n (x ∷ l) = n ∷ numbersF (suc n) l
 
-abbrev statesF : List TopLevel → Table → List ℕ
+abbrev pub statesF : List TopLevel → Table → List ℕ
 statesF g t = map (λ T. rankF (stateF (t (task № T) state))) (numbersF 0 (tasks g))
 
 -- after 1, 2, .. n cycles
-abbrev traceF : List TopLevel → ℕ → ℕ → Table → List (List ℕ)
+abbrev pub traceF : List TopLevel → ℕ → ℕ → Table → List (List ℕ)
 traceF g now zero t = []
 traceF g now (suc n) t = let u = enactF (changesF g t now) t in statesF g u ∷ traceF g now n u
 
@@ -87,13 +87,13 @@ worked g n {r = r} a b c d =
     }
 
 -- the table that a run leaves
-abbrev leftF : List TopLevel → ℕ → Table
+abbrev pub leftF : List TopLevel → ℕ → Table
 leftF g n = runF g 7 n 0 (lookF (loadF g)) false .0 .table
 
 -- ---- the guidelines
 
 -- three plots, the second after the first, the third once the second is completed: enquiries without sources, which complete in the cycle after they start
-abbrev plots : List TopLevel
+abbrev pub plots : List TopLevel
 plots =
     define plan "plots" (part "north" [] ∷ part "south" (after "north" ∷ []) ∷ part "east" [] ∷ [])
     ∷ define enquiry "east" (Structure.wait-condition (expr (Apply (Operators.is-in completed) (StringLit (bytes "south") ▸ ε))) ∷ [])
@@ -102,7 +102,7 @@ plots =
     ∷ []
 
 -- a terminal component completes: the other, an action that waits to be confirmed, is discarded, and the plan completes
-abbrev terminal-part : List TopLevel
+abbrev pub terminal-part : List TopLevel
 terminal-part =
     define plan "walk" (part "gate" (Structure.terminal true ∷ []) ∷ part "hedge" [] ∷ [])
     ∷ define enquiry "gate" []
@@ -110,7 +110,7 @@ terminal-part =
     ∷ []
 
 -- a false precondition discards a task, and with it the one that waits for it alone
-abbrev unwanted : List TopLevel
+abbrev pub unwanted : List TopLevel
 unwanted =
     define plan "spray" (part "mix" [] ∷ part "rinse" (after "mix" ∷ []) ∷ [])
     ∷ define action "mix" (Structure.precondition (expr (Apply (compare is>) (IntegerLit (pos 1) ▸ IntegerLit (pos 2) ▸ ε))) ∷ [])
@@ -118,11 +118,11 @@ unwanted =
     ∷ []
 
 -- a task with a trigger is not started by its schedule
-abbrev triggered : List TopLevel
+abbrev pub triggered : List TopLevel
 triggered = define plan "flood" (part "pump" [] ∷ []) ∷ define enquiry "pump" (Structure.trigger (called "alarm") ∷ []) ∷ []
 
 -- a mandatory source: the item is requested, and the enquiry waits
-abbrev mandatory-source : List TopLevel
+abbrev pub mandatory-source : List TopLevel
 mandatory-source =
     define plan "gauge" (part "read" [] ∷ [])
     ∷ define enquiry "read" (Structure.source (called "level") (placed (Structure.mandatory true) ∷ []) ∷ [])
@@ -130,7 +130,7 @@ mandatory-source =
     ∷ []
 
 -- x = 2 and x = 2.0: two values for one row
-abbrev collision : List TopLevel
+abbrev pub collision : List TopLevel
 collision =
     define plan "dose" (Structure.postcondition (record { target = called "x"; value = expr (IntegerLit (pos 2)) } ∷ record { target = called "x"; value = expr (FloatLit (pos 2000)) } ∷ []) ∷ [])
     ∷ Structure.data-item (record { named = called "x"; declared = a-real; attributes = [] })
