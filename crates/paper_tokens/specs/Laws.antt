@@ -4,4 +4,5 @@ pub mod LexicalLaws
 pub mod StuckLaws
 pub mod LexicalTwin
 pub mod LexicalRows
+pub mod LiteralRows
 pub mod TerminalLaws
