@@ -13,13 +13,13 @@ use Rattle.grammar.proofs.read.Reads as read-reads
 use Rattle.stages.proofs.place_of.Reads as place-of-reads
 
 returns : tie.Need-returns
-returns c = subst (Verdict Process (@{start} .args .kinds .now)) (@{enum-told} .given .1) (@{read} .ensures) .1
+returns c = subst (Verdict Process (c .before .before .before .before .before .before .args .kinds .now)) (c .enum-told .given .1) (c .before .before .read .ensures) .1
 
 returns-2 : tie.Need-returns-2
-returns-2 c = λ h. record { index = @{i} .given .0 .0; bad = subst (Verdict Process (@{start} .args .kinds .now)) (@{i} .given .1) (@{read} .ensures) .1; place = @{place-of} .ensures }
+returns-2 c = λ h. record { index = c .before .before .i .given .0 .0; bad = subst (Verdict Process (c .before .before .before .before .before .before .before .before .args .kinds .now)) (c .before .before .i .given .1) (c .before .before .before .before .read .ensures) .1; place = c .place-of .ensures }
 
 returns-3 : tie.Need-returns-3
-returns-3 c = λ h. let l = subst (Verdict Process (@{start} .args .kinds .now)) (@{enum-told2} .given .1) (@{read} .ensures) in absurd (omega arith)
+returns-3 c = λ h. let l = subst (Verdict Process (c .before .before .before .before .before .before .args .kinds .now)) (c .enum-told2 .given .1) (c .before .before .read .ensures) in absurd (omega arith)
 
 pub first-bad-spec : {M : Type 1} → statement M
 first-bad-spec =
