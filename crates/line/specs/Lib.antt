@@ -10,5 +10,3 @@ pub mod Table
 pub mod Writing
 pub mod Valued
 pub mod Whole
-pub mod Twin
-pub mod Worked

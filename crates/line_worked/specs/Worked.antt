@@ -23,7 +23,7 @@ use Rattle.paper_tokens.specs.Laws.TerminalLaws.{terminalF}
 use Rattle.paper_guideline.specs.LeftOut.{left-out-words, left-out-functors}
 use Rattle.paper_guideline.specs.Laws.TreeLaws.{infixF, treeF}
 use Rattle.paper_guideline.specs.Line.{LineTree, LineAnswer, refused, gives, LineAnswers}
-use Rattle.line.specs.Twin.{lineF, computed, treeOf, tree-computed}
+use Rattle.line_worked.specs.Twin.{lineF, computed, treeOf, tree-computed}
 
 -- ---- the small program
 
