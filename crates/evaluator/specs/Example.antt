@@ -4,7 +4,7 @@ use mathlib.Core.Path.{_≡_, refl, subst}
 use mathlib.Core.Bool.{true}
 use mathlib.Core.List.{[], _∷_}
 use mathlib.Core.Option.{none, some}
-use Prim.Native.Nat.{ℕ, zero, suc, _<_}
+use Prim.Native.Nat.{ℕ}
 use native.Mathlib.Omega.{arith}
 use lib.IntN.{pos}
 use lib.ListN.{getD}
@@ -21,12 +21,11 @@ use Rattle.paper_expressions.specs.Laws.Promise.{eval-only}
 use Rattle.paper_expressions.specs.Laws.Soundness.{sound-if}
 use Rattle.parts.specs.Codes.{declared-code}
 use Rattle.parts.specs.Texts.{textAt}
-use Rattle.parts.specs.Part.{Table, table, code-at, load-at, Ends, Within}
+use Rattle.parts.specs.Part.{Table, table, Ends, Within}
 use Rattle.values.specs.declared.value.Value.{Value}
 use Rattle.values.specs.Meaning.{meaningV}
 use Rattle.apply.specs.Tasks.{nameOf, state-number}
-use Rattle.evaluator.specs.Columns.{Columns, columns, shown, shownAt, Spelt, AllSpelt, Setting}
-use Rattle.evaluator.specs.Texts.{spelt-inside, spelt-other, all-spelt}
+use Rattle.evaluator.specs.Columns.{Columns, columns, shown, shownAt, Setting}
 use Rattle.evaluator.specs.Published.{Published}
 
 -- ---- the guideline
@@ -96,20 +95,6 @@ state-at at-first = refl
 state-at (at-later at-first) = refl
 state-at (at-later (at-later h)) = elim h [ ]
 
-text-at : AllSpelt parts
-text-at = all-spelt parts 8 (omega arith) each
-  where
-    each : (p : ℕ) → p < 8 → Spelt (bytes "at") (code-at parts p) (load-at parts p)
-    each zero h = spelt-inside {k = 1} (omega arith)
-    each (suc zero) h = spelt-other (λ e. omega arith) (λ e. omega arith)
-    each (suc (suc zero)) h = spelt-inside {k = 1} (omega arith)
-    each (suc (suc (suc zero))) h = spelt-other (λ e. omega arith) (λ e. omega arith)
-    each (suc (suc (suc (suc zero)))) h = spelt-other (λ e. omega arith) (λ e. omega arith)
-    each (suc (suc (suc (suc (suc zero))))) h = spelt-other (λ e. omega arith) (λ e. omega arith)
-    each (suc (suc (suc (suc (suc (suc zero)))))) h = spelt-other (λ e. omega arith) (λ e. omega arith)
-    each (suc (suc (suc (suc (suc (suc (suc zero))))))) h = spelt-other (λ e. omega arith) (λ e. omega arith)
-    each (suc (suc (suc (suc (suc (suc (suc (suc p)))))))) h = absurd (omega arith)
-
 setting : Setting parts lent guideline
 setting =
     record {
@@ -117,7 +102,6 @@ setting =
       held = record { held = small };
       items = record { types = 2 ∷ []; items = record { number = refl; named = name-at; typed = type-at }; values = value-at };
       tasks = record { number = refl; named = task-at; stated = state-at };
-      texts = text-at;
     }
 
 ends : Ends parts 8 expression
@@ -184,14 +168,6 @@ its-state at-first = refl
 its-state (at-later at-first) = refl
 its-state (at-later (at-later h)) = elim h [ ]
 
-its-texts : AllSpelt two-parts
-its-texts = all-spelt two-parts 2 (omega arith) each
-  where
-    each : (p : ℕ) → p < 2 → Spelt [] (code-at two-parts p) (load-at two-parts p)
-    each zero h = spelt-inside {k = 1} (omega arith)
-    each (suc zero) h = spelt-other (λ e. omega arith) (λ e. omega arith)
-    each (suc (suc p)) h = absurd (omega arith)
-
 its-setting : Setting two-parts two-tasks nameless
 its-setting =
     record {
@@ -199,7 +175,6 @@ its-setting =
       held = record { held = λ h. elim h [ ] };
       items = record { types = []; items = record { number = refl; named = λ h. elim h [ ]; typed = λ h. elim h [ ] }; values = λ h. elim h [ ] };
       tasks = record { number = refl; named = its-name; stated = its-state };
-      texts = its-texts;
     }
 
 pub nameless-example : (r : Value) → Published two-parts two-tasks 0 2 2 r → meaningV [] r ≡ one (truth true)

@@ -3,7 +3,6 @@ pub mod Steps
 pub mod Stages
 pub mod Columns
 pub mod Modest
-pub mod Texts
 pub mod Given
 pub mod Tests
 pub mod Table

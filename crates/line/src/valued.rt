@@ -6,9 +6,6 @@ ghost use Rattle.parts.specs.Part.{table};
 ghost use Rattle.line.specs.Reply.{Answered};
 ghost use Rattle.line.specs.Steps.{Blank, Fitting, Worth, Comes};
 
-// Bytes for the texts of an expression: a text has fewer than 64.
-const TEXTS: usize = 65_536;
-
 // The value of an expression of the type with the letter, whose parts end before `end`. There are no data items and no tasks.
 fn worth(cells: &[u32], bytes: &[u8], end: usize, letter: u8, out: &mut [u8]) -> usize
     requires { ⌜ Blank (now out) ⌝ }
@@ -44,7 +41,7 @@ fn value(cells: &[u32], bytes: &[u8], end: usize, out: &mut [u8]) -> usize
     worth(cells, bytes, end, letter, out)
 }
 
-// The parts of the expression, with their texts gathered, and what they come to.
+// The parts of the expression, whose texts stand in the line itself, and what they come to.
 pub fn evaluate(
     line: &[u8],
     kinds: &[u8],
@@ -58,8 +55,5 @@ pub fn evaluate(
 {
     let mut cells = [0u32; Expressions::CELLS];
     let built = reader::read_expression(line, kinds, places, lengths, 0, false, &mut cells, 0);
-    let end = built.used;
-    let mut bytes = [0u8; TEXTS];
-    let _ = pool::gather(line, &mut cells, 0, end, &mut bytes, 0);
-    value(&cells, &bytes, end, out)
+    value(&cells, line, built.used, out)
 }

@@ -22,7 +22,8 @@ use Rattle.paper_tokens.specs.Terminals as Terminals
 use Rattle.paper_guideline.specs.Structure.{Name, Outermost}
 use Rattle.parts.specs.Texts.{cells, handle}
 use Rattle.parts.specs.Part.{table, size, sizes}
-use Rattle.parts.specs.Encode.{Part, flat, flat-length, flat-append, spelling, encode, encodes}
+use Rattle.parts.specs.Encode.{Part, flat, spelling, encode, encodes}
+use Rattle.parts.specs.EncodeLaws.{flat-length, flat-append}
 use Rattle.parts.specs.Kept.{HasText, Kept, holds-kept}
 use Rattle.parts.specs.Operands.{size-pos}
 use Rattle.leaves.specs.declared.names.Span.{Span}

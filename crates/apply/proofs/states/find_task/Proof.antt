@@ -7,7 +7,8 @@ use lib.ListN.{length}
 use borrow.Author.Count.{below-more}
 use borrow.Author.Needs.{needs}
 use Rattle.paper_expressions.specs.Laws.Tests.{contra}
-use Rattle.apply.specs.Tasks.{namedb, asked-name, root-unnamed}
+use Rattle.apply.specs.Tasks.{namedb}
+use Rattle.apply.specs.TaskLaws.{asked-name, root-unnamed}
 use Rattle.apply.proofs.states.find_task.Statement.{statement}
 use Rattle.apply.proofs.states.find_task.Tie as tie
 
