@@ -17,8 +17,7 @@ use Rattle.tokens.specs.Reply.{blank}
 use Rattle.parts.specs.Part.{Table, size, Ends, Within}
 use Rattle.resolution.specs.Letters.{letter}
 use Rattle.leaves.specs.Source.{source, Stand, Clean}
-use Rattle.evaluator.specs.Columns.{AllSpelt}
-use Rattle.written.specs.Longest.{answer-limit}
+use Rattle.written.specs.Limit.{answer-limit}
 use Rattle.line.specs.declared.tests.Verdict.{Verdict}
 use Rattle.line.specs.declared.tests.Verdict.the-variants.{Fine, Refused}
 use Rattle.line.specs.Reply.{Answered}
@@ -27,10 +26,6 @@ use Rattle.line.specs.Reply.{Answered}
 pub record Blank (out : List ℕ) : Type 0 where
   pub room : answer-limit ≤ length out
   pub all-zero : out ≡ blank (length out)
-
--- bytes for the texts of an expression: fewer than 64 for each part
-abbrev pub text-room : ℕ
-text-room = 65536
 
 -- no stage whose turn comes before n is broken
 abbrev pub Before : List ℕ → ℕ → Type 0
@@ -70,7 +65,6 @@ pub record Held (line : List ℕ) (t : Table) (end : ℕ) : Type 0 where
   pub ends : Ends t end (bare expression)
   pub deep : Within depth-limit (bare expression)
   pub modest : Modest expression
-  pub texts : AllSpelt (t .bytes) (t .kinds) (t .loads)
 
 abbrev pub Parses : List ℕ → List ℕ → List ℕ → List ℕ → Verdict → Type 0
 Parses line kinds places lengths Fine = Parsed line kinds places lengths

@@ -1,11 +1,11 @@
--- The part table of a line: the reader puts the tree there, its texts are gathered, and so it is held as the last step asks for. By what the two promise.
-use Prim.Native.Nat.{ℕ, _+_, _≤_, _<_}
+-- The part table of a line: the reader puts the tree there, over the line's own bytes, as the last step asks for. By what it promises.
+use Prim.Native.Nat.{ℕ, _+_, _*_, _≤_, _<_}
 use native.Mathlib.Omega.{arith}
-use mathlib.Core.Path.{_≡_, _∙_}
+use mathlib.Core.Path.{_≡_}
 use mathlib.Core.Bool.{true}
-use mathlib.Core.Logic.{inr, ⊎-elim}
+use mathlib.Core.Logic.{⊎-elim}
 use mathlib.Core.List.{List, []}
-use lib.ListN.{length, getD}
+use lib.ListN.{length}
 use Rattle.paper_expressions.specs.Expressions.{Expr}
 use Rattle.paper_expressions.specs.Laws.Parentheses.{bare}
 use Rattle.paper_guideline.specs.Tree.{anywhere}
@@ -17,60 +17,36 @@ use Rattle.parts.specs.Part.{table, size, Holds}
 use Rattle.leaves.specs.Source.{source, Stand}
 use Rattle.steps.specs.declared.Built.{Built}
 use Rattle.reader.specs.Store.{Reads, bare-size}
-use Rattle.pool.specs.Pooled.{Gathers, Pooled}
-use Rattle.line.specs.Steps.{text-room, Before, Fitting, Held}
+use Rattle.line.specs.Steps.{Before, Fitting, Held}
 use Rattle.line.specs.Stages.{few-open, line-tree}
 use Rattle.line.specs.Tests.{nothing-behind}
-use Rattle.line.specs.Texts.{short-texts, all-inside}
 
 short-line : (line : List ℕ) {n : ℕ} → 0 < n → Before line n → length line ≤ guideline-limit
 short-line line l f = ⊎-elim (λ h. h) (λ h. absurd (f text-stage l (line-long h))) (le-or-gt (length line) guideline-limit)
 
 module _ {line kinds places lengths : List ℕ} where
-  -- ---- the parts in the table
-
-  module _ (f : Fitting line kinds places lengths) {ks ns ss ls ks′ ns′ ss′ ls′ : List ℕ} {m : Built}
-      (reads : Reads anywhere (source line kinds places lengths) (table ks ns ss ls line) (table ks′ ns′ ss′ ls′ line) 0 0 m)
-      (all : (length ks ≡ part-limit) × (length ns ≡ part-limit) × (length ss ≡ part-limit) × (length ls ≡ part-limit)) where
+  module _ (f : Fitting line kinds places lengths) {x y : List ℕ} {m : Built} (reads : Reads anywhere (source line kinds places lengths) (table x line) (table y line) 0 0 m)
+      (all : length x ≡ part-limit * 4) where
     abbrev whole : Expr
     whole = f .parsed .expression
 
-    read : (m .ok ≡ true) × Stand (source line kinds places lengths) (m .next) [] × (m .used ≡ 0 + size whole) × Holds (table ks′ ns′ ss′ ls′ line) 0 (bare whole)
+    read : (m .ok ≡ true) × Stand (source line kinds places lengths) (m .next) [] × (m .used ≡ 0 + size whole) × Holds (table y line) 0 (bare whole)
     read =
         let p = f .parsed in
         let s = f .small in
         reads .ok 0 (p .tokens) [] whole (p .stand) (p .tree) nothing-behind (few-open (p .its) (omega arith) (f .before)) (f .clean) (short-line line (omega arith) (f .before))
-        (record { limit = s; kinds = omega arith; counts = omega arith; sizes = omega arith; loads = omega arith })
+        (record { limit = s; cells = omega arith })
 
-    -- ---- and the texts in the bytes
-
-    module _ {xs b b′ : List ℕ} {r : ℕ} (blank : (j : ℕ) → getD ks j 0 ≡ 0) (stays : length ls′ ≡ part-limit) (room : length b ≡ text-room)
-        (gathers : Gathers line ks′ ls′ xs b b′ 0 (m .used) 0 r) where
-      pooled : Pooled ks′ ns′ ss′ ls′ xs b b′ 0 0 r (bare whole)
-      pooled =
-          let h = read .3 in
-          let u = read .2 in
-          let z = bare-size whole in
-          let s = f .small in
-          let l = short-texts (table ks′ ns′ ss′ ls′ line) (bare whole) 0 h in
-          let to : m .used ≡ 0 + size (bare whole) = omega arith in
-          let in-loads : m .used ≤ length ls′ = omega arith in
-          let o = gathers .room ns′ ss′ (bare whole) h to in-loads (record { bytes = omega arith; places = omega arith }) in
-          gathers .done ns′ ss′ (bare whole) h to in-loads (record { bytes = omega arith; places = omega arith })
-
-      pub held : Held line (table ks′ ns′ ss′ xs b′) (m .used)
-      held =
-          let p = f .parsed in
-          let u = read .2 in
-          let z = bare-size whole in
-          let q = pooled in
-          let e = q .fits .bytes in
-          record {
-            expression = whole;
-            tree = line-tree (p .its) (p .tree);
-            before = f .before;
-            ends = record { start = 0; spans = omega arith; held = q .held };
-            deep = f .deep;
-            modest = f .modest;
-            texts = all-inside b′ ks′ xs (m .used) (λ j l h. let k = q .below j (omega arith) (omega arith) h in omega arith) (λ j l. reads .beside (read .0) .kinds j (inr l) ∙ blank j);
-          }
+    pub held : Held line (table y line) (m .used)
+    held =
+        let p = f .parsed in
+        let u = read .2 in
+        let k = bare-size whole in
+        record {
+          expression = whole;
+          tree = line-tree (p .its) (p .tree);
+          before = f .before;
+          ends = record { start = 0; spans = omega arith; held = read .3 };
+          deep = f .deep;
+          modest = f .modest;
+        }

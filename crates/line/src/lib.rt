@@ -6,13 +6,11 @@ mod valued;
 use limits::TokenList;
 use tests::Verdict;
 use tokens::Read;
+use written::Answer;
 ghost use mathlib.Core.Path.{_≡_};
 ghost use lib.ListN.{length, replicate};
 ghost use Rattle.line.specs.Reply.{Reply, Answered};
 ghost use Rattle.line.specs.Steps.{Blank, Lexed};
-
-// No answer has more bytes.
-const ANSWER: usize = 1_024;
 
 // All zero.
 fn clear(out: &mut [u8])
@@ -49,7 +47,7 @@ pub fn answer(line: &[u8], out: &mut [u8]) -> usize
     ensures { λ r. ⌜ Reply (now (line .entry)) (length (now (out .entry))) (now (out .exit)) r ⌝ }
 {
     clear(out);
-    if out.len() < ANSWER {
+    if out.len() < Answer::LIMIT {
         return 0;
     }
     let mut kinds = [0u8; TokenList::LIMIT];

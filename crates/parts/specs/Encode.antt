@@ -1,19 +1,16 @@
--- Law: every expression without parentheses whose texts and literals are within the limits has a table, and its cells fit the columns.
--- By its parts as a list, and its texts one behind the other.
-use mathlib.Core.Path.{_≡_, refl, sym, ap, subst, _∙_}
-use mathlib.Core.List.{List, [], _∷_, _++_, map}
-use Prim.Native.Nat.{ℕ, suc, _+_, _≤_, _<_}
-use native.Mathlib.Omega.{arith}
-use lib.ListN.{getD, length, length-append, List·getD-map}
+-- The parts of an expression as a list, its texts one behind the other, the cells that they are, and what it is for them to stand somewhere.
+-- Definitions only.
+use mathlib.Core.Path.{_≡_}
+use mathlib.Core.List.{List, [], _∷_, _++_}
+use Prim.Native.Nat.{ℕ, suc, _+_, _≤_}
+use lib.ListN.{getD, length}
 use Rattle.paper_expressions.specs.Limits.{text-limit}
 use Rattle.paper_expressions.specs.Values.{InLimit, InRealLimit}
 use Rattle.paper_expressions.specs.Operators.{Op, arithmetic, divide, compare, and, or, includes, oneof, if, negate, isknown, not, count, sum, extreme, nth, is-in, no-such}
 use Rattle.paper_expressions.specs.Expressions.{Expr, Exprs, Atom, IntegerLit, FloatLit, StringLit, Paren, Listing, Apply, ε, _▸_}
 use Rattle.parts.specs.Codes.{code}
-use Rattle.parts.specs.Texts.{cells, handle, textAt, text-of, literal, moved, literal-moved}
-use Rattle.parts.specs.Part.{Table, table, size, sizes, number-of, OpLoad, Holds, HoldsAll}
-
--- ---- definitions
+use Rattle.parts.specs.Texts.{handle, moved}
+use Rattle.parts.specs.Part.{Table, code-at, count-at, size-at, load-at, sizes, number-of}
 
 pub record Part : Type 0 where
   pub kind : ℕ
@@ -23,6 +20,11 @@ pub record Part : Type 0 where
 
 abbrev pub part : ℕ → ℕ → ℕ → ℕ → Part
 part k n s x = record { kind = k; count = n; size = s; load = x }
+
+-- parts as cells, four each
+abbrev pub flat : List Part → List ℕ
+flat [] = []
+flat (r ∷ rs) = r .kind ∷ r .count ∷ r .size ∷ r .load ∷ flat rs
 
 -- the name of an operator that section 11 doesn't have; no other needs its own
 abbrev pub name : Op → List ℕ
@@ -109,134 +111,20 @@ abbrev mutual
   AllFit ε = Unit {0}
   AllFit (e ▸ es) = Fits e × AllFit es
 
--- ---- what stands in a column from a place on
+-- ---- what stands from a place on
 
 module _ {A : Type 0} (P : ℕ → A → Type 0) where
   abbrev pub Stands : ℕ → List A → Type 0
   Stands a [] = Unit {0}
   Stands a (x ∷ xs) = P a x × Stands (suc a) xs
 
-  pub join : (xs ys : List A) (a : ℕ) → Stands a xs → Stands (a + length xs) ys → Stands a (xs ++ ys)
-  join [] ys a h k = subst (λ (b : ℕ). Stands b ys) (omega arith) k
-  join (x ∷ xs) ys a h k = (h .0, join xs ys (suc a) (h .1) (subst (λ (b : ℕ). Stands b ys) (omega arith) k))
-
-  split : (xs ys : List A) (a : ℕ) → Stands a (xs ++ ys) → Stands a xs × Stands (a + length xs) ys
-  split [] ys a h = (tt, subst (λ (b : ℕ). Stands b ys) (omega arith) h)
-  split (x ∷ xs) ys a h = let g = split xs ys (suc a) (h .1) in ((h .0, g .0), subst (λ (b : ℕ). Stands b ys) (omega arith) (g .1))
-
-  by-cells : (d : A) (xs : List A) (a : ℕ) → ((i : ℕ) → i < length xs → P (a + i) (getD xs i d)) → Stands a xs
-  by-cells d [] a h = tt
-  by-cells d (x ∷ xs) a h = (
-    subst (λ (b : ℕ). P b x) (omega arith) (h 0 (omega arith)),
-    by-cells d xs (suc a) (λ i l. subst (λ (b : ℕ). P b (getD xs i d)) (omega arith) (h (suc i) (omega arith))),
-  )
-
 -- the bytes s stand in b
 abbrev pub Spelt : List ℕ → ℕ → List ℕ → Type 0
 Spelt b o s = Stands (λ i c. getD b i 0 ≡ c) o s
 
-pub spelt-cells : (b s : List ℕ) (o : ℕ) → Spelt b o s → cells b o (length s) ≡ s
-spelt-cells b [] o h = refl
-spelt-cells b (c ∷ s) o h = let x = h .0 in let y = spelt-cells b s (suc o) (h .1) in cc
-
-spelt-text : (b s : List ℕ) (o : ℕ) → length s ≤ text-limit → Spelt b o s → textAt b (handle o (length s)) ≡ s
-spelt-text b s o l h = text-of b o (length s) (omega arith) ∙ spelt-cells b s o h
-
 -- the parts stand in the table
 abbrev pub Is : Table → ℕ → Part → Type 0
-Is t p r = (getD (t .kinds) p 0 ≡ r .kind) × (getD (t .counts) p 0 ≡ r .count) × (getD (t .sizes) p 0 ≡ r .size) × (getD (t .loads) p 0 ≡ r .load)
+Is t p r = (code-at t p ≡ r .kind) × (count-at t p ≡ r .count) × (size-at t p ≡ r .size) × (load-at t p ≡ r .load)
 
 abbrev pub Laid : Table → ℕ → List Part → Type 0
 Laid t a rs = Stands (Is t) a rs
-
-mutual
-  pub long : (o : ℕ) (e : Expr) → Fits e → length (encode o e) ≡ size e
-  long o (Atom a) f = refl
-  long o (IntegerLit n) f = refl
-  long o (FloatLit n) f = refl
-  long o (StringLit s) f = refl
-  long o (Paren e) f = absurd f
-  long o (Listing es) f = let l = longs o es f in simp length-append (omega arith)
-  long o (Apply p es) f = let l = longs o es (f .1) in simp length-append (omega arith)
-
-  pub longs : (o : ℕ) (es : Exprs) → AllFit es → length (encodes o es) ≡ sizes es
-  longs o ε f = refl
-  longs o (e ▸ es) f = let x = long o e (f .0) in let y = longs (o + length (spelling e)) es (f .1) in simp length-append (omega arith)
-
--- ---- parts that stand in a table hold their expression
-
-op-load : (b : List ℕ) (p : Op) (o : ℕ) → length (name p) ≤ text-limit → Spelt b o (name p) → OpLoad b p (name-load o p)
-op-load b (arithmetic k) o l h = refl
-op-load b divide o l h = refl
-op-load b (compare k) o l h = refl
-op-load b and o l h = refl
-op-load b or o l h = refl
-op-load b includes o l h = refl
-op-load b oneof o l h = refl
-op-load b if o l h = refl
-op-load b negate o l h = refl
-op-load b isknown o l h = refl
-op-load b not o l h = refl
-op-load b count o l h = refl
-op-load b sum o l h = refl
-op-load b (extreme e) o l h = refl
-op-load b nth o l h = refl
-op-load b (is-in s) o l h = refl
-op-load b (no-such n) o l h = spelt-text b n o l h
-
-module _ (t : Table) where
-  mutual
-    pub laid-held : (e : Expr) (a o : ℕ) → Fits e → Spelt (t .bytes) o (spelling e) → Laid t a (encode o e) → Holds t a e
-    laid-held (Atom n) a o f s h =
-        record { kinds = h .0 .0; counts = h .0 .1; sizes = h .0 .2; loads = ap (textAt (t .bytes)) (h .0 .3) ∙ spelt-text (t .bytes) n o f s }
-    laid-held (IntegerLit n) a o f s h =
-        record { kinds = h .0 .0; counts = h .0 .1; sizes = h .0 .2; loads = ap literal (h .0 .3) ∙ literal-moved n (omega arith) }
-    laid-held (FloatLit n) a o f s h =
-        record { kinds = h .0 .0; counts = h .0 .1; sizes = h .0 .2; loads = ap literal (h .0 .3) ∙ literal-moved n f }
-    laid-held (StringLit n) a o f s h =
-        record { kinds = h .0 .0; counts = h .0 .1; sizes = h .0 .2; loads = ap (textAt (t .bytes)) (h .0 .3) ∙ spelt-text (t .bytes) n o f s }
-    laid-held (Paren e) a o f s h = f
-    laid-held (Listing es) a o f s h =
-        let g = split (Is t) (encodes o es) (part 5 (number-of es) (suc (sizes es)) 0 ∷ []) a h in
-        let r = subst (λ (m : ℕ). Is t (a + m) (part 5 (number-of es) (suc (sizes es)) 0)) (longs o es f) (g .1 .0) in
-        (laid-all es a o f s (g .0), record { kinds = r .0; counts = r .1; sizes = r .2; loads = r .3 })
-    laid-held (Apply p es) a o f s h =
-        let n = name-load (o + length (spellings es)) p in
-        let u = split (λ i c. getD (t .bytes) i 0 ≡ c) (spellings es) (name p) o s in
-        let g = split (Is t) (encodes o es) (part (code p) (number-of es) (suc (sizes es)) n ∷ []) a h in
-        let r = subst (λ (m : ℕ). Is t (a + m) (part (code p) (number-of es) (suc (sizes es)) n)) (longs o es (f .1)) (g .1 .0) in (
-          laid-all es a o (f .1) (u .0) (g .0),
-          record { kinds = r .0; counts = r .1; sizes = r .2; loads = subst (OpLoad (t .bytes) p) (sym (r .3)) (op-load (t .bytes) p (o + length (spellings es)) (f .0) (u .1)) },
-        )
-
-    pub laid-all : (es : Exprs) (a o : ℕ) → AllFit es → Spelt (t .bytes) o (spellings es) → Laid t a (encodes o es) → HoldsAll t a es
-    laid-all ε a o f s h = tt
-    laid-all (e ▸ es) a o f s h =
-        let m = o + length (spelling e) in
-        let u = split (λ i c. getD (t .bytes) i 0 ≡ c) (spelling e) (spellings es) o s in
-        let g = split (Is t) (encode o e) (encodes m es) a h in (
-          laid-held e a o (f .0) (u .0) (g .0),
-          laid-all es (a + size e) m (f .1) (u .1) (subst (λ (k : ℕ). Laid t (a + k) (encodes m es)) (long o e (f .0)) (g .1)),
-        )
-
--- ---- every expression has its table
-
-abbrev pub columns : List Part → List ℕ → Table
-columns rs b = table (map (λ r. r .kind) rs) (map (λ r. r .count) rs) (map (λ r. r .size) rs) (map (λ r. r .load) rs) b
-
-abbrev nothing : Part
-nothing = part 0 0 0 0
-
-pub has-table : (e : Expr) → Fits e → Holds (columns (encode 0 e) (spelling e)) 0 e
-has-table e f =
-    let rs = encode 0 e in
-    let b = spelling e in
-    laid-held (columns rs b) e 0 0 f
-    (by-cells (λ i c. getD b i 0 ≡ c) 0 b 0 λ i l. subst (λ (k : ℕ). getD b k 0 ≡ getD b i 0) {x = i} {y = 0 + i} (omega arith) refl)
-    (by-cells (Is (columns rs b)) nothing rs 0 λ i l.
-    subst (λ (k : ℕ). Is (columns rs b) k (getD rs i nothing)) {x = i} {y = 0 + i} (omega arith) (
-      List·getD-map (λ (r : Part). r .kind) rs i nothing,
-      List·getD-map (λ (r : Part). r .count) rs i nothing,
-      List·getD-map (λ (r : Part). r .size) rs i nothing,
-      List·getD-map (λ (r : Part). r .load) rs i nothing,
-    ))
