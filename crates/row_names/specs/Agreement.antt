@@ -14,7 +14,7 @@ use borrow.Author.Tests.{eqb-true, eq-eqb}
 use Rattle.paper_expressions.specs.View.{At, at-first, at-later}
 use Rattle.paper_expressions.specs.Laws.Tests.{contra, two, every, and-l, and-r, or-cases, or-l, or-r}
 use Rattle.paper_expressions.specs.Laws.Search.{no-clash, at-one}
-use Rattle.parts.specs.Items.{at-index, index-of}
+use Rattle.parts.specs.ItemLaws.{at-index, index-of}
 use Rattle.paper_tokens.specs.Tokens.{“data”, “=”, “component”, “source”}
 use Rattle.paper_grammar.specs.Laws.Ll.{isIn}
 use Rattle.paper_guideline.specs.Structure.{Name, Task, DataItem, TopLevel, task, data-item, tasks, data-items}

@@ -11,7 +11,7 @@ use lib.ListN.{length}
 use Rattle.paper_expressions.specs.View.{At, at-first, at-later}
 use Rattle.paper_expressions.specs.Laws.Tests.{contra, two, not-both}
 use Rattle.paper_expressions.specs.Laws.Search.{at-one}
-use Rattle.parts.specs.Items.{at-index, index-of}
+use Rattle.parts.specs.ItemLaws.{at-index, index-of}
 use Rattle.paper_tokens.specs.Tokens
 use Tokens.{“plan”, “action”, “enquiry”, “data”, “=”, “caption”, “description”, “component”, “source”, “schedule-constraint”, “terminal”, “mandatory”}
 use Rattle.paper_grammar.specs.Laws.Ll.{isIn}

@@ -15,7 +15,7 @@ use Rattle.paper_expressions.specs.Bytes.{folded, Alike}
 use Rattle.paper_expressions.specs.View.{At, at-first, at-later}
 use Rattle.paper_expressions.specs.Laws.Tests.{contra, two, not-both}
 use Rattle.paper_expressions.specs.Laws.Search.{no-clash, at-one}
-use Rattle.parts.specs.Items.{at-index, index-of}
+use Rattle.parts.specs.ItemLaws.{at-index, index-of}
 use Rattle.paper_tokens.specs.Tokens
 use Tokens.{“plan”, “action”, “enquiry”, “data”, “=”, “caption”, “component”, “source”, “schedule-constraint”}
 use Rattle.paper_guideline.specs.Structure

@@ -14,7 +14,7 @@ use borrow.Author.Tests.{eqb-true, eq-eqb}
 use Rattle.paper_expressions.specs.View.{At, at-first, at-later}
 use Rattle.paper_expressions.specs.Laws.Tests.{contra, two}
 use Rattle.paper_expressions.specs.Laws.Search.{no-clash, at-one}
-use Rattle.parts.specs.Items.{at-index, index-of}
+use Rattle.parts.specs.ItemLaws.{at-index, index-of}
 use Rattle.paper_tokens.specs.Tokens
 use Tokens.{“data”, “=”, “caption”, “description”, “precondition”, “wait-condition”, “postcondition”, “trigger”, “terminate”, “component”, “source”, “schedule-constraint”, “terminal”, “mandatory”}
 use Rattle.paper_guideline.specs.Structure

@@ -9,7 +9,7 @@ use native.Mathlib.Omega.{arith}
 use lib.ListN.{length}
 use Rattle.paper_expressions.specs.View.{At, at-first, at-later}
 use Rattle.paper_expressions.specs.Laws.Tests.{contra}
-use Rattle.parts.specs.Items.{index-of}
+use Rattle.parts.specs.ItemLaws.{index-of}
 use Rattle.paper_tokens.specs.Lexical.{Token}
 use Rattle.paper_guideline.specs.Structure
 use Structure.{Placed, Generic, Attribute, generic, precondition, wait-condition, terminate, postcondition, trigger, component, source, Class, Task, TopLevel, task, data-item, tasks}
