@@ -1,19 +1,17 @@
 // What the small program writes, in a lent buffer: the header, and step by step each line's number and answer.
 ghost use mathlib.Core.Path.{_≡_};
-ghost use Prim.Native.Nat.{_+_, _<_};
 ghost use lib.ListN.{length, take};
 ghost use Rattle.digits.specs.Appends.{Appends};
 ghost use Rattle.line.specs.Reply.{Reply};
-ghost use Rattle.output.specs.Steps.{line-limit, number-limit, Room, Starts, LineWritten, Steps, Ends};
+ghost use Rattle.output.specs.Steps.{line-limit, following, Room, Starts, LineWritten, Steps, Ends};
+
+use limits::Answer;
 
 pub struct Written;
 
 impl Written {
-    // bytes of an answer
-    pub const ANSWER: usize = 1_024;
-
     // bytes of a line: twenty digits, a blank, the answer, a newline
-    pub const LINE: usize = 20 + 1 + Written::ANSWER + 1;
+    pub const LINE: usize = 20 + 1 + Answer::LIMIT + 1;
 
     pub fn line() -> usize
         ensures { λ r. ⌜ r ≡ line-limit ⌝ }
@@ -69,7 +67,7 @@ fn write_line(kept: &[u8], n: usize, number: usize, out: &mut [u8], o: usize) ->
     requires { ⌜ Room (now out) o ⌝ }
     ensures { λ r. ⌜ LineWritten (take n (now (kept .entry))) number (now (out .entry)) (now (out .exit)) o r ⌝ }
 {
-    let mut text = [0u8; Written::ANSWER];
+    let mut text = [0u8; Answer::LIMIT];
     let len = answer(kept, n, &mut text);
     let a = digits::number(number, out, o);
     let b = digits::byte(b' ', out, a);
@@ -79,7 +77,7 @@ fn write_line(kept: &[u8], n: usize, number: usize, out: &mut [u8], o: usize) ->
 
 // The number of the next line.
 fn next(number: usize) -> usize
-    ensures { λ r. ⌜ (number < number-limit → r ≡ number + 1) ⌝ }
+    ensures { λ r. ⌜ r ≡ following number ⌝ }
 {
     if number < usize::MAX {
         return number + 1;
