@@ -189,6 +189,26 @@ fn declared(kinds: &[u8], i: usize, items: &mut [usize], tasks: &mut [usize], c:
     c
 }
 
+// The bare names.
+fn found(
+    text: &[u8],
+    kinds: &[u8],
+    places: &[usize],
+    i: usize,
+    w: Within,
+    names: &mut [usize],
+    c: Counts,
+) -> Counts {
+    if !is_bare(text, kinds, places, i, w) {
+        return c;
+    }
+    Counts {
+        items: c.items,
+        tasks: c.tasks,
+        bare: put(names, c.bare, i),
+    }
+}
+
 // The names among the first n tokens: of data items, of tasks, and bare in expressions.
 pub fn collect(
     text: &[u8],
@@ -209,13 +229,7 @@ pub fn collect(
     while i < n {
         w = on(w, byte(kinds, i), before(kinds, i));
         c = declared(kinds, i, items, tasks, c);
-        if is_bare(text, kinds, places, i, w) {
-            c = Counts {
-                items: c.items,
-                tasks: c.tasks,
-                bare: put(names, c.bare, i),
-            };
-        }
+        c = found(text, kinds, places, i, w, names, c);
         i += 1;
     }
     c

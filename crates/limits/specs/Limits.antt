@@ -6,10 +6,6 @@ use Rattle.paper_guideline.specs.Limits.{token-limit}
 abbrev pub row-cells : ℕ
 row-cells = token-limit / 3 * 8
 
--- bytes that the small program's answer to a line can take
-abbrev pub answer-limit : ℕ
-answer-limit = 1_024
-
 -- "cycles in one run 0 to 256"
 abbrev pub cycle-limit : ℕ
 cycle-limit = 256

@@ -2,7 +2,7 @@
 // The limits of values stand on the types of values: integers and reals on numbers::Num, texts on values::Handle, lists on values::List.
 ghost use mathlib.Core.Path.{_≡_};
 ghost use Prim.Native.Nat.{_*_};
-ghost use Rattle.limits.specs.Limits.{row-cells, answer-limit, cycle-limit, time-limit, wait-side, change-rows};
+ghost use Rattle.limits.specs.Limits.{row-cells, cycle-limit, time-limit, wait-side, change-rows};
 ghost use Rattle.paper_guideline.specs.Limits.{guideline-limit, token-limit, bracket-limit, task-limit, data-item-limit};
 ghost use Rattle.paper_guideline.specs.Limits.{part-limit, depth-limit, assignment-limit, source-limit, decimal-limit};
 
@@ -207,18 +207,5 @@ impl Changes {
         ensures { λ r. ⌜ r ≡ change-rows ⌝ }
     {
         Changes::ROWS
-    }
-}
-
-pub struct Answer;
-
-impl Answer {
-    // bytes of the small program's answer to a line
-    pub const LIMIT: usize = 1_024;
-
-    pub fn bytes() -> usize
-        ensures { λ r. ⌜ r ≡ answer-limit ⌝ }
-    {
-        Answer::LIMIT
     }
 }

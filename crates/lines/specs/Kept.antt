@@ -1,10 +1,10 @@
 -- What is kept of a line while it comes in, and what one call of `take` does. Definitions only.
 use Prim.Native.Nat.{ℕ, _+_, _≤_, min}
 use mathlib.Core.Path.{_≡_}
-use mathlib.Core.Bool.{Bool, true, false, cond}
+use mathlib.Core.Bool.{Bool, true, false, cond, _||_}
 use mathlib.Core.List.{List, [], _∷_, _++_}
-use lib.Dec.{eqb}
-use lib.ListN.{length, take, drop}
+use lib.Dec.{eqb, leb}
+use lib.ListN.{length, take, drop, set}
 use Rattle.paper_guideline.specs.Limits.{guideline-limit}
 use Rattle.lines.specs.declared.Taken.{Taken}
 
@@ -18,9 +18,24 @@ pub record Begun (begun kept : List ℕ) (n : ℕ) : Type 0 where
   pub count : n ≡ min (length begun) kept-limit
   pub same : take n kept ≡ take kept-limit begun
 
+-- no byte more is kept
+abbrev pub no-more : List ℕ → ℕ → Bool
+no-more kept n = leb kept-limit n || leb (length kept) n
+
+-- the lent bytes, and how many of them are kept, once these bytes have come: each goes behind the last, and all else is as it was
+abbrev pub cells-after : List ℕ → ℕ → List ℕ → List ℕ
+cells-after kept n [] = kept
+cells-after kept n (b ∷ w) = cond (no-more kept n) (cells-after kept n w) (cells-after (set kept n b) (n + 1) w)
+
+abbrev pub count-after : List ℕ → ℕ → List ℕ → ℕ
+count-after kept n [] = n
+count-after kept n (b ∷ w) = cond (no-more kept n) (count-after kept n w) (count-after (set kept n b) (n + 1) w)
+
 -- one byte more
-abbrev pub Keeps : List ℕ → ℕ → ℕ → List ℕ → ℕ → Type 0
-Keeps kept n b kept′ m = (begun : List ℕ) → Begun begun kept n → Begun (begun ++ (b ∷ [])) kept′ m
+pub record Keeps (kept : List ℕ) (n b : ℕ) (kept′ : List ℕ) (m : ℕ) : Type 0 where
+  pub cells : kept′ ≡ cells-after kept n (b ∷ [])
+  pub count : m ≡ count-after kept n (b ∷ [])
+  pub more : (begun : List ℕ) → Begun begun kept n → Begun (begun ++ (b ∷ [])) kept′ m
 
 -- what stands before the first newline (10), or all where there is none
 abbrev pub before-newline : List ℕ → List ℕ
@@ -33,6 +48,8 @@ has-newline (b ∷ w) = cond (eqb b 10) true (has-newline w)
 
 -- the bytes of the chunk from a place on, up to a newline or the chunk's end, are those of the line that follow
 pub record Takes (chunk : List ℕ) (from : ℕ) (kept : List ℕ) (n : ℕ) (kept′ : List ℕ) (r : Taken) : Type 0 where
+  pub cells : kept′ ≡ cells-after kept n (before-newline (drop from chunk))
+  pub count : r .n ≡ count-after kept n (before-newline (drop from chunk))
   pub more : (begun : List ℕ) → Begun begun kept n → Begun (begun ++ before-newline (drop from chunk)) kept′ (r .n)
   pub ended : r .ended ≡ has-newline (drop from chunk)
   pub on : r .at ≡ from + length (before-newline (drop from chunk)) + cond (r .ended) 1 0

@@ -7,25 +7,26 @@ use mathlib.Core.List.{List, [], _∷_, _++_, append-assoc, append-nil}
 use lib.Dec.{ltb}
 use lib.ListN.{length, take, replicate, length-append, length-replicate}
 use lib.Seq.{take-at}
+use borrow.Author.Tests.{lt-ltb}
 use Rattle.paper_guideline.specs.Line.{LineAnswer, LineAnswers, digits-in, digits-of, answer-written}
 use Rattle.tokens.specs.Reply.{filled}
-use Rattle.digits.specs.Appends.{Appends, append-then, appends-as, read-back}
+use Rattle.digits.specs.Appends.{Appends, append-nothing, append-then, appends-as}
 use Rattle.lines.specs.Kept.{Takes}
 use Rattle.lines.specs.Run.{line-written, Run, line-ends, line-goes-on, last-line, no-last-line}
 use Rattle.lines.specs.RunLaws.{moves-on}
 use Rattle.lines.specs.declared.Taken.{Taken}
 use Rattle.written.specs.Limit.{answer-limit}
 use Rattle.line.specs.Reply.{Answered, Reply}
-use Rattle.output.specs.Steps.{line-limit, number-limit, Put, Room, LineWritten, Steps, Ends}
+use Rattle.output.specs.Steps.{line-limit, number-limit, following, Put, Room, LineWritten, Steps, Ends}
 use Rattle.output.specs.declared.State.{State}
 
 -- ---- what stands in the buffer
 
 pub put : {out out′ : List ℕ} {o r : ℕ} {w : List ℕ} → Appends out out′ o r w → o + length w ≤ length out → Put out out′ o r w
-put h room = record { up-to = h .wrote room .0; bytes = read-back h room }
+put h room = record { up-to = h .wrote room .0; cells = h .wrote room .1 }
 
-put-nothing : (out : List ℕ) (o : ℕ) → Put out out o o []
-put-nothing out o = record { up-to = omega arith; bytes = sym (append-nil (take o out)) }
+put-nothing : (out : List ℕ) (o : ℕ) → o ≤ length out → Put out out o o []
+put-nothing out o h = put (append-nothing out o) (omega arith)
 
 -- ---- how long a line is
 
@@ -78,29 +79,39 @@ line-is {text} {out} {out′} {number} {n} {len} {o} {r} reply e l first blank i
 -- ---- one step
 
 module _ {chunk kept kept′ : List ℕ} {s : State} {t : Taken} (took : Takes chunk (s .at) kept (s .n) kept′ t) where
-  pub goes-on : (out : List ℕ) → t .ended ≡ false → Steps chunk kept kept′ out out s (record { at = t .at; n = t .n; number = s .number; o = s .o })
-  goes-on out e = record {
+  pub goes-on : (out : List ℕ) → s .o ≤ length out → t .ended ≡ false → Steps chunk kept kept′ out out s (record { at = t .at; n = t .n; number = s .number; o = s .o })
+  goes-on out room e = record {
     writes = [];
-    put = put-nothing out (s .o);
+    put = put-nothing out (s .o) room;
     run = λ few chunks more h. line-goes-on took e h;
     onward = moves-on took;
+    taken = t;
+    took = took;
+    place = refl;
+    count = rw e;
+    number = rw e;
   }
 
   pub ends : {out out′ : List ℕ} {number o : ℕ} → t .ended ≡ true → LineWritten (take (t .n) kept′) (s .number) out out′ (s .o) o
-      → (s .number < number-limit → number ≡ s .number + 1) → Steps chunk kept kept′ out out′ s (record { at = t .at; n = 0; number = number; o = o })
+      → number ≡ following (s .number) → Steps chunk kept kept′ out out′ s (record { at = t .at; n = 0; number = number; o = o })
   ends e l next = record {
     writes = line-written (s .number) (l .answer);
     put = l .put;
-    run = λ few chunks more h. line-ends took e (l .answers) (subst (λ (k : ℕ). Run kept′ 0 k chunk (t .at) chunks more) (next few) h);
+    run = λ few chunks more h. line-ends took e (l .answers) (subst (λ (k : ℕ). Run kept′ 0 k chunk (t .at) chunks more) (next ∙ rw (lt-ltb (s .number) number-limit few)) h);
     onward = moves-on took;
+    taken = t;
+    took = took;
+    place = refl;
+    count = rw e;
+    number = rw e next;
   }
 
 -- ---- the end
 
-pub none-left : (kept out : List ℕ) (s : State) → s .n ≡ 0 → Ends kept out out s (s .o)
-none-left kept out s e = record {
+pub none-left : (kept out : List ℕ) (s : State) → s .o ≤ length out → s .n ≡ 0 → Ends kept out out s (s .o)
+none-left kept out s room e = record {
   writes = [];
-  put = put-nothing out (s .o);
+  put = put-nothing out (s .o) room;
   run = λ chunk from l. subst (λ (n : ℕ). Run kept n (s .number) chunk from [] []) (sym e) (no-last-line l);
 }
 

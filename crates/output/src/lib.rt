@@ -1,11 +1,11 @@
 // What the small program writes, in a lent buffer: the header, and step by step each line's number and answer.
 use written::Answer;
 ghost use mathlib.Core.Path.{_≡_};
-ghost use Prim.Native.Nat.{_+_, _<_};
 ghost use lib.ListN.{length, take};
 ghost use Rattle.digits.specs.Appends.{Appends};
 ghost use Rattle.line.specs.Reply.{Reply};
-ghost use Rattle.output.specs.Steps.{line-limit, number-limit, Room, Starts, LineWritten, Steps, Ends};
+ghost use Rattle.output.specs.Steps.{line-limit, following, Room, Starts, LineWritten, Steps, Ends};
+
 
 pub struct Written;
 
@@ -77,7 +77,7 @@ fn write_line(kept: &[u8], n: usize, number: usize, out: &mut [u8], o: usize) ->
 
 // The number of the next line.
 fn next(number: usize) -> usize
-    ensures { λ r. ⌜ (number < number-limit → r ≡ number + 1) ⌝ }
+    ensures { λ r. ⌜ r ≡ following number ⌝ }
 {
     if number < usize::MAX {
         return number + 1;

@@ -1,8 +1,9 @@
-// The tokens of many texts: reads a batch, each text as its length in four bytes, big-endian, and its bytes, and writes a line for each:
+// The tokens of the texts of a batch, a line for each:
 // `refused N P`, or `tokens` and ` K:P:L` for each token, with its kind, place and length. For comparison with the second program.
-ghost use Prim.Native.Nat.{_<_};
-use libc::STDIN_FILENO;
+use batch::Next;
 use libc::STDOUT_FILENO;
+use limits::TokenList;
+use terminals::Terminal;
 use tokens::Read;
 
 // A byte of the text, or 0 past its end.
@@ -53,8 +54,8 @@ fn letter(text: &[u8], kind: u8, place: usize, len: usize) -> u8 {
             }
             b'a'
         }
-        98 => b'i',
-        99 => {
+        Terminal::INTEGER => b'i',
+        Terminal::FLOAT => {
             if has_exponent(text, place, len) {
                 return b'x';
             }
@@ -74,15 +75,15 @@ fn write_token(k: u8, place: usize, len: usize) {
 
 fn write_tokens(
     text: &[u8],
-    kinds: &[u8; 4096],
-    places: &[usize; 4096],
-    lengths: &[usize; 4096],
+    kinds: &[u8; TokenList::LIMIT],
+    places: &[usize; TokenList::LIMIT],
+    lengths: &[usize; TokenList::LIMIT],
     count: usize,
 ) {
     io::write_all(STDOUT_FILENO, b"tokens");
     let mut i = 0usize;
     while i < count {
-        if 4096 <= i {
+        if TokenList::LIMIT <= i {
             return;
         }
         let place = places[i];
@@ -93,41 +94,16 @@ fn write_tokens(
     io::write_all(STDOUT_FILENO, b"\n");
 }
 
-fn write_refused(number: u8, place: usize) {
-    io::write_all(STDOUT_FILENO, b"refused ");
-    io::print_decimal(STDOUT_FILENO, number as u64);
-    io::write_all(STDOUT_FILENO, b" ");
-    io::print_decimal(STDOUT_FILENO, place as u64);
-    io::write_all(STDOUT_FILENO, b"\n");
-}
-
 // One text: its tokens, or its refusal.
 fn answer(text: &[u8]) {
-    let mut kinds = [0u8; 4096];
-    let mut places = [0usize; 4096];
-    let mut lengths = [0usize; 4096];
+    let mut kinds = [0u8; TokenList::LIMIT];
+    let mut places = [0usize; TokenList::LIMIT];
+    let mut lengths = [0usize; TokenList::LIMIT];
     match tokens::tokens(text, &mut kinds, &mut places, &mut lengths) {
         Read::Tokens(n) => write_tokens(text, &kinds, &places, &lengths, n),
-        Read::Refused(number, place) => write_refused(number, place),
+        Read::Refused(number, place) => batch::write_refused(number, place),
         Read::Short => {}
     }
-}
-
-fn wide(b: u8) -> usize
-    ensures { λ r. ⌜ r < 256 ⌝ }
-{
-    b as usize
-}
-
-// The length that four bytes tell; one too long for the buffer, where it is over 65,535.
-fn length_of(head: [u8; 4]) -> usize {
-    if head[0] != 0 {
-        return 65537;
-    }
-    if head[1] != 0 {
-        return 65537;
-    }
-    wide(head[2]) * 256 + wide(head[3])
 }
 
 // Answers the first n bytes of a buffer.
@@ -139,26 +115,13 @@ fn answer_first(text: &[u8], n: usize) -> bool {
     true
 }
 
-// Reads a text of n bytes into the buffer and answers it, where the input and the buffer have so many.
-fn read_text(text: &mut [u8], n: usize) -> bool {
-    if text.len() < n {
-        return false;
-    }
-    if io::read_full(STDIN_FILENO, &mut text[..n]) < n {
-        return false;
-    }
-    answer_first(text, n)
-}
-
 // Reads one text and answers it, where there is one.
 fn next() -> bool {
-    let mut head = [0u8; 4];
-    if io::read_full(STDIN_FILENO, &mut head) < 4 {
-        return false;
-    }
-    let n = length_of(head);
     let mut text = io::large_buffer();
-    read_text(&mut text, n)
+    match batch::next(&mut text) {
+        Next::Text(n) => answer_first(&text, n),
+        Next::Nothing => false,
+    }
 }
 
 // A proved loop has to end, so it counts its turns down, from a number that no batch uses up.

@@ -11,7 +11,7 @@ returns-2 : tie.Need-returns-2
 returns-2 c = no-room (c .before .before .args .b) (c .before .if1 .left) (c .if2 .taken)
 
 returns-3 : tie.Need-returns-3
-returns-3 c = behind (c .before .before .args .b) (c .before .if1 .left)
+returns-3 c = behind (c .before .before .args .b) (c .before .if1 .left) (c .if2 .left)
 
 pub keep-spec : {M : Type 1} → statement M
 keep-spec =

@@ -7,7 +7,7 @@ use Rattle.output.proofs.start.Statement.{statement}
 use Rattle.output.proofs.start.Tie as tie
 
 returns : tie.Need-returns
-returns c = record { kept = refl; first = refl; put = put (c .before .before .word .ensures) (let r = c .before .before .before .before .before .before .pre in omega arith) }
+returns c = record { at = refl; kept = refl; first = refl; put = put (c .before .before .word .ensures) (let r = c .before .before .before .before .before .before .pre in omega arith) }
 
 pub start-spec : {M : Type 1} → statement M
 start-spec = tie.close (tie.spec (λ c. search needs) (λ c κs. search needs) (λ c. search needs) returns)
