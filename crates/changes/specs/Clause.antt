@@ -6,7 +6,7 @@ use lib.Dec.{eqb}
 use Rattle.paper_engine.specs.Table.{Table}
 use Rattle.paper_engine.specs.Conditions.{StartConditions, InitialiseConditions, DiscardConditions, CompleteConditions}
 use Rattle.paper_engine.specs.Operations.{Clause, §8·5·1-1, §8·5·1-2, §8·5·1-3, §8·5·1-4, §8·5·1-5, Review, review-1, review-2, review-3, review-4, review-5}
-use Rattle.conditions.specs.Booleans.{Tests}
+use Rattle.waits.specs.Booleans.{Tests}
 use Rattle.paper_expressions.specs.Laws.Search.{no-clash}
 
 abbrev pub clause-of : ℕ → Clause

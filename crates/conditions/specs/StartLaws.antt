@@ -17,88 +17,13 @@ use Rattle.paper_engine.specs.Table.{task, Component, _№_, Property, state, a
 use Rattle.paper_engine.specs.Conditions.{IsTrue, StartAt, ScheduleConditions, SomeCompleted, ScheduledStartConditions, StartCase, start-2a, start-2b, start-2c, StartConditions, InitialiseConditions, initialise-1, initialise-2a, initialise-2b}
 use Rattle.state.specs.Cell.{state-code, plain-state, plain-truth, time-there, time-number}
 use Rattle.state.specs.Layout.{Rows, rowIs, row-test, state-column, trigger-column, start-column}
-use Rattle.conditions.specs.Booleans.{Tests, allF, anyF, is-and, is-or, is-not, is-if, is-as, is-all, is-any}
-use Rattle.conditions.specs.Twins.{marked, waiting, timedF, endedF, overF, completedF, scheduleF, scheduledF, parentAt, parentF, triggerF, terminalF, dueF, startF, initialiseF}
-use Rattle.conditions.specs.Worked.{Parent, Waits, HasTrigger, Worked, Allowed, Marks}
-
-test-is : (b : Bool) → Tests b (b ≡ true)
-test-is b = (λ e. e, λ e. e)
-
-test-zero : (x : ℕ) → Tests (eqb x 0) (x ≡ 0)
-test-zero x = (eqb-true x 0, eq-eqb x 0)
-
-same-list : {o : Option RowValue} {l m : List Component} → o ≡ some (components-are l) → o ≡ some (components-are m) → l ≡ m
-same-list e f = cc
-
-same-plan : {o : Option RowValue} {P Q : ℕ} → o ≡ some (component-is (task № P)) → o ≡ some (component-is (task № Q)) → P ≡ Q
-same-plan e f = cc
-
-same-task : {c : Component} {A B : ℕ} → c ≡ task № A → c ≡ task № B → A ≡ B
-same-task e f = cc
-
-no-row : {o : Option RowValue} {r : RowValue} → o ≡ none → ¬ (o ≡ some r)
-no-row e f = no-clash (cc)
+use Rattle.waits.specs.Booleans.{Tests, allF, anyF, is-and, is-or, is-not, is-if, is-as, is-all, is-any}
+use Rattle.waits.specs.Twins.{marked, waiting, timedF, endedF, overF, completedF, scheduleF, scheduledF, parentAt, parentF, triggerF, terminalF, dueF, startF, initialiseF}
+use Rattle.waits.specs.Worked.{Parent, Waits, HasTrigger, Worked, Allowed, Marks}
+use Rattle.waits.specs.Shows.{test-is, same-list, same-plan, same-task, no-row, in-test, active-test, due-test, mine, small, any-test, schedule-test, parent-test-at}
 
 module _ {s : List ℕ} {t : Table} (rows : Rows s t) where
-  in-test : (T : ℕ) (x : TaskState) → T < 32 → Tests (rowIs s 8 T 5 (state-code x)) (Contains t (task № T) state (state-is x))
-  in-test T x l = row-test rows state-column l (plain-state x)
-
-  active-test : (T : ℕ) → T < 32 → Tests (rowIs s 72 T 2 1) (Contains t (task № T) trigger-active (truth-row true))
-  active-test T l = row-test rows trigger-column l (plain-truth true)
-
-  abbrev Timed : ℕ → Type 0
-  Timed T = (r : ℕ) × StartAt t T r
-
-  timed-test : (T : ℕ) → T < 32 → Tests (timedF s T) (Timed T)
-  timed-test T l =
-      let h = rows .tasks start-column l in
-      is-as (λ e. (_, e)) (λ z. z .1 ∙ ap (λ (r : ℕ). some (time-is r)) (sym (time-number h (z .1)))) (time-there h)
-
-  due-test : (now T : ℕ) → T < 32 → Tests (dueF s now T) ((r : ℕ) × StartAt t T r × (r ≤ now))
-  due-test now T l =
-      let h = rows .tasks start-column l in
-      let x = getD s (360 + T) 0 in
-      is-as (λ z. (z .0 .0, z .0 .1, subst (λ (r : ℕ). r ≤ now) (time-number h (z .0 .1)) (z .1))) (λ z. ((z .0, z .1), subst (λ (r : ℕ). r ≤ now) (sym (time-number h (z .1))) (z .2)))
-      (is-and (timed-test T l) (leb-true x now, le-leb x now))
-
-  abbrev Ended : ℕ → Type 0
-  Ended A = (Contains t (task № A) state (state-is completed) ⊎ Contains t (task № A) state (state-is discarded)) × (¬ Timed A)
-
-  ended-test : (A : ℕ) → A < 32 → Tests (endedF s A) (Ended A)
-  ended-test A l = is-and (is-or (in-test A completed l) (in-test A discarded l)) (is-not (timed-test A l))
-
   module _ {f : List ℕ} {w : List (List Bool)} {n : ℕ} (worked : Worked f w n t) (T : ℕ) (l : T < n) where
-    row : List Bool
-    row = waiting w T
-
-    mine : Waits (waiting w T) (t (task № T) antecedent-tasks)
-    mine = worked .waits l
-
-    small : T < 32
-    small = let z = worked .number in omega arith
-
-    -- ---- 8.6.6
-    pub schedule-test : {wait : Bool} → Tests wait (Allowed t wait-condition T) → Tests (scheduleF s (waiting w T) wait) (ScheduleConditions t T)
-    schedule-test {wait} h =
-        is-as to back (is-and (is-all (overF s (waiting w T)) (λ A. marked (waiting w T) A ≡ true → Ended A) 32 (λ A k. is-if (test-is (marked (waiting w T) A)) (ended-test A k))) h)
-      where
-        to : ((A : ℕ) → A < 32 → marked (waiting w T) A ≡ true → Ended A) × Allowed t wait-condition T → ScheduleConditions t T
-        to z =
-            record {
-              clause-1a = λ {l = m} {i} {A} c a. over m i A c a .0;
-              clause-1b = λ {l = m} {i} {A} {r} c a q. over m i A c a .1 (r, q);
-              clause-2 = λ {e} c. z .1 e c;
-            }
-          where
-            over : (m : List Component) (i A : ℕ) → Contains t (task № T) antecedent-tasks (components-are m) → At m i (task № A) → Ended A
-            over m i A c a =
-                let k = mine .of c a in
-                let e : k .0 ≡ A = same-task (k .2) refl in
-                subst Ended e (z .0 (k .0) (k .1) (k .3))
-
-        back : ScheduleConditions t T → ((A : ℕ) → A < 32 → marked (waiting w T) A ≡ true → Ended A) × Allowed t wait-condition T
-        back r = (λ A k m. let q = mine .all k m in (r .clause-1a (q .2) (q .3), λ z. r .clause-1b (q .2) (q .3) (z .1)), λ e c. r .clause-2 c)
-
     -- ---- 8.6.5
     abbrev Completed : ℕ → Type 0
     Completed A = (marked (waiting w T) A ≡ true) × Contains t (task № A) state (state-is completed)
@@ -106,24 +31,21 @@ module _ {s : List ℕ} {t : Table} (rows : Rows s t) where
     abbrev SomeDone : Type 0
     SomeDone = (A : ℕ) × (A < 32) × (marked (waiting w T) A ≡ true) → (A : ℕ) × (A < 32) × Completed A
 
-    any-test : Tests (anyF (marked (waiting w T)) 32) ((A : ℕ) × (A < 32) × (marked (waiting w T) A ≡ true))
-    any-test = is-any (marked (waiting w T)) (λ A. marked (waiting w T) A ≡ true) 32 (λ A k. test-is (marked (waiting w T) A))
-
     completed-test : Tests (anyF (completedF s (waiting w T)) 32) ((A : ℕ) × (A < 32) × Completed A)
-    completed-test = is-any (completedF s (waiting w T)) Completed 32 (λ A k. is-and (test-is (marked (waiting w T) A)) (in-test A completed k))
+    completed-test = is-any (completedF s (waiting w T)) Completed 32 (λ A k. is-and (test-is (marked (waiting w T) A)) (in-test rows A completed k))
 
     pub scheduled-test : {pre wait : Bool} → Tests pre (Allowed t precondition T) → Tests wait (Allowed t wait-condition T)
         → Tests (scheduledF s (waiting w T) pre wait T) (ScheduledStartConditions t T)
-    scheduled-test h k = is-as to back (is-and (in-test T dormant small) (is-and (schedule-test k) (is-and (is-if any-test completed-test) h)))
+    scheduled-test h k = is-as to back (is-and (in-test rows T dormant (small rows worked T l)) (is-and (schedule-test rows worked T l k) (is-and (is-if (any-test rows worked T l) completed-test) h)))
       where
         to : Contains t (task № T) state (state-is dormant) × (ScheduleConditions t T × (SomeDone × Allowed t precondition T)) → ScheduledStartConditions t T
         to z = record { clause-1 = z .0; clause-2 = z .1 .0; clause-3 = λ {c} {l = m} q. some-done c m q; clause-4 = λ {e} q. z .1 .1 .1 e q }
           where
             some-done : (c : Component) (m : List Component) → Contains t (task № T) antecedent-tasks (components-are (c ∷ m)) → SomeCompleted t (c ∷ m)
             some-done c m q =
-                let a = mine .of q at-first in
+                let a = mine rows worked T l .of q at-first in
                 let b = z .1 .1 .0 (a .0, a .1, a .3) in
-                let d = mine .all (b .1) (b .2 .0) in
+                let d = mine rows worked T l .all (b .1) (b .2 .0) in
                 record { i = d .1; A = b .0; at = subst (λ (x : List Component). At x (d .1) (task № b .0)) (same-list (d .2) q) (d .3); row = b .2 .1 }
 
         back : ScheduledStartConditions t T → Contains t (task № T) state (state-is dormant) × (ScheduleConditions t T × (SomeDone × Allowed t precondition T))
@@ -135,30 +57,11 @@ module _ {s : List ℕ} {t : Table} (rows : Rows s t) where
 
             done : SomeDone
             done z =
-                let d = mine .all (z .1) (z .2) in
+                let d = mine rows worked T l .all (z .1) (z .2) in
                 let q = found (d .0) (d .1) (z .0) (d .2) (d .3) in
-                let a = mine .of (d .2) (q .at) in
+                let a = mine rows worked T l .of (d .2) (q .at) in
                 let e : a .0 ≡ q .A = same-task (a .2) refl in
                 (a .0, a .1, (a .3, subst (λ (x : ℕ). Contains t (task № x) state (state-is completed)) (sym e) (q .row)))
-
-  -- ---- 8.6.2
-
-  abbrev Runs : ℕ → Type 0
-  Runs P = Contains t (task № P) state (state-is in-progress)
-
-  parent-test-at : (x : ℕ) {o : Option RowValue} → Parent x o
-      → Tests (eqb x 0 || rowIs s 8 (x - 1) 5 2) ((P : ℕ) → o ≡ some (component-is (task № P)) → Runs P)
-  parent-test-at zero h = (λ e P q. absurd (no-row (h .none-there refl) q), λ k. refl)
-  parent-test-at (suc P) {o} h =
-      let e : suc P ≡ P + 1 = omega arith in
-      let k = h .there e in
-      let d : suc P - 1 ≡ P = omega arith in
-      let r : Tests (rowIs s 8 (suc P - 1) 5 2) (Runs P) = subst (λ (x : ℕ). Tests (rowIs s 8 x 5 2) (Runs P)) (sym d) (in-test P in-progress (k .0)) in
-      is-as (to (k .1)) (λ f. inr (f P (k .1))) (is-or (test-zero (suc P)) r)
-    where
-      to : o ≡ some (component-is (task № P)) → (suc P ≡ 0) ⊎ Runs P → (Q : ℕ) → o ≡ some (component-is (task № Q)) → Runs Q
-      to q (inl z) Q j = absurd (omega arith)
-      to q (inr z) Q j = subst Runs (same-plan q j) z
 
   module _ {f : List ℕ} {w : List (List Bool)} {n : ℕ} (worked : Worked f w n t) (T : ℕ) (l : T < n) where
     below : T < 32
@@ -168,7 +71,7 @@ module _ {s : List ℕ} {t : Table} (rows : Rows s t) where
         → Tests ((scheduledF s (waiting w T) pre wait T && not (triggerF f T)) || ((rowIs s 72 T 2 1 && rowIs s 8 T 5 1) || dueF s now T)) (StartCase t now T)
     case-test now h k =
         is-as to back
-        (is-or (is-and (scheduled-test worked T l h k) (is-not (worked .triggers l))) (is-or (is-and (active-test T below) (in-test T dormant below)) (due-test now T below)))
+        (is-or (is-and (scheduled-test worked T l h k) (is-not (worked .triggers l))) (is-or (is-and (active-test rows T below) (in-test rows T dormant below)) (due-test rows now T below)))
       where
         to : (ScheduledStartConditions t T × (¬ HasTrigger t T)) ⊎ ((Contains t (task № T) trigger-active (truth-row true) × Contains t (task № T) state (state-is dormant)) ⊎ ((r : ℕ) × StartAt t T r × (r ≤ now))) → StartCase t now T
         to (inl z) = start-2a (z .0) (λ x e. z .1 (x, e))
@@ -184,7 +87,7 @@ module _ {s : List ℕ} {t : Table} (rows : Rows s t) where
         → Tests (startF s f (waiting w T) pre wait now T) (StartConditions t now T)
     start-test now h k =
         is-as (λ z. record { clause-1 = λ {P} q. z .0 P q; clause-2 = z .1 }) (λ r. (λ P q. r .clause-1 q, r .clause-2))
-        (is-and (parent-test-at (parentAt f T) (worked .parents l)) (case-test now h k))
+        (is-and (parent-test-at rows (parentAt f T) (worked .parents l)) (case-test now h k))
 
     -- ---- 8.6.1, one step
 
@@ -195,7 +98,7 @@ module _ {s : List ℕ} {t : Table} (rows : Rows s t) where
         → ((P : ℕ) → parentAt f T ≡ P + 1 → Tests (marked starts P) (StartConditions t now P) × Tests (marked marks P) (InitialiseConditions t now P))
         → Tests (initialiseF s f starts marks T) (InitialiseConditions t now T)
     initialise-test now starts marks known =
-        go (parentAt f T) (worked .parents l) known (is-and (in-test T completed below) (is-and (active-test T below) (is-not (worked .terminals l))))
+        go (parentAt f T) (worked .parents l) known (is-and (in-test rows T completed below) (is-and (active-test rows T below) (is-not (worked .terminals l))))
       where
         go : (x : ℕ) → Parent x (t (task № T) parent-plan)
             → ((P : ℕ) → x ≡ P + 1 → Tests (marked starts P) (StartConditions t now P) × Tests (marked marks P) (InitialiseConditions t now P))

@@ -20,7 +20,7 @@ use Rattle.paper_engine.specs.Cycle as Cycle
 use Rattle.paper_engine.specs.Operations.{InitialiseSource, initialise-source, Start, start-1, start-2, start-3, start-4, start-8, start-9, start-12}
 use Rattle.state.specs.Cell.{Cell, Plain, plain-unknown, plain-truth, plain-count, plain-time, plain-state, one-row, row-is, tag}
 use Rattle.state.specs.Layout.{Rows, count-column}
-use Rattle.conditions.specs.Booleans.{Tests, is-not}
+use Rattle.waits.specs.Booleans.{Tests, is-not}
 use Rattle.changes.specs.Row.{component-code, Column, state-at, start-at-at, in-progress-at, confirmed-at, count-at, procedure-at, requested-at, Appends, One, this, Either, first, second, Nothing, Pushes, appends-none, appends-as, appends-more}
 
 -- ---- 1, 2, 3, 8

@@ -6,38 +6,15 @@ use Rattle.starting.specs.StartRows.{requestedF, request-none, request-m
 use borrow.Author.Needs.{needs}
 use Rattle.starting.proofs.request.Statement.{statement}
 use Rattle.starting.proofs.request.Tie as tie
-use Rattle.starting.proofs.request.Reads as reads
-use Rattle.starting.proofs.request.Lts as lts
-use Rattle.changes.proofs.push.Reads as push-reads
-use Rattle.starting.proofs.requested.Reads as requested-reads
 
--- src/lib.rt:68:9
 returns : tie.Need-returns
 returns c = λ t S rows l h. absurd (omega arith)
 
--- src/lib.rt:70:8
-requested-requires : tie.Need-requested-requires
-requested-requires c κs = search needs
-
--- src/lib.rt:71:9
 returns-2 : tie.Need-returns-2
 returns-2 c = 
     let a = c .before .before .before .before .before .args in
     request-none (a .s .now) (a .d) (a .out .now) (a .n) (sym (c .before .requested .ensures) ∙ c .if2 .taken)
 
--- src/lib.rt:73:27
-add-push : tie.Need-add-push
-add-push c = search needs
-
--- src/lib.rt:73:5
-push-requires : tie.Need-push-requires
-push-requires c κs = search needs
-
--- src/lib.rt:64:1
-same-length : tie.Need-same-length
-same-length c = search needs
-
--- src/lib.rt:64:1
 returns-3 : tie.Need-returns-3
 returns-3 c = 
     let a = c .before .before .before .before .before .before .before .before .before .args in
@@ -48,5 +25,5 @@ returns-3 c =
 pub request-spec : {M : Type 1} → statement M
 request-spec =
     tie.close
-    (tie.spec returns requested-requires returns-2 add-push push-requires same-length returns-3)
+    (tie.spec returns (λ c κs. search needs) returns-2 (λ c. search needs) (λ c κs. search needs) (λ c. search needs) returns-3)
 
