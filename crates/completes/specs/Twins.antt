@@ -50,3 +50,14 @@ all-off g i n {v} l e f = go (allF g n) (is-all g (λ j. g j ≡ true) n (λ j k
 
 pub all-end : (g : ℕ → Bool) (i n : ℕ) → i ≡ n → true ≡ allF g i → true ≡ allF g n
 all-end g i n e h = h ∙ (let z : allF g i ≡ allF g n = cc in z)
+
+pub not-true : (v : Bool) → not v ≡ true → v ≡ false
+not-true true e = contra e
+not-true false e = refl
+
+pub not-false : (v : Bool) → not v ≡ false → v ≡ true
+not-false true e = refl
+not-false false e = contra (sym e)
+
+pub sources-are : (s f : List ℕ) (T x y : ℕ) {v : Bool} → x ≡ firstAt f T → y ≡ countAt f T → v ≡ allF (λ i. answeredF s f (x + i)) y → v ≡ sourcesF s f T
+sources-are s f T x y e g h = h ∙ ap₂ (λ (a b : ℕ). allF (λ i. answeredF s f (a + i)) b) e g
