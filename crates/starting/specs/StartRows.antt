@@ -21,6 +21,7 @@ use Rattle.paper_engine.specs.Operations.{InitialiseSource, initialise-source, 
 use Rattle.state.specs.Cell.{Cell, Plain, plain-unknown, plain-truth, plain-count, plain-time, plain-state, one-row, row-is, tag}
 use Rattle.state.specs.Layout.{Rows, count-column}
 use Rattle.waits.specs.Booleans.{Tests, is-not}
+use Rattle.waits.specs.Twins.{firstAt, countAt, itemAt}
 use Rattle.changes.specs.Row.{component-code, Column, state-at, start-at-at, in-progress-at, confirmed-at, count-at, procedure-at, requested-at, Appends, One, this, Either, first, second, Nothing, Pushes, appends-none, appends-as, appends-more}
 
 -- ---- 1, 2, 3, 8
@@ -152,8 +153,6 @@ request-more s d o n q m {b} e f h t S rows l i =
 pub data Requested (t : Table) (j k : ℕ) (c : Component) (p : Property) (r : RowValue) : Type 0 where
   requested-by : (i : ℕ) → i < k → InitialiseSource t (source № (j + i)) c p r → Requested t j k c p r
 
-abbrev pub itemAt : List ℕ → ℕ → ℕ
-itemAt f n = getD f (264 + n) 0
 
 -- the items of these sources
 abbrev pub ItemsOf : List ℕ → Table → ℕ → ℕ → Type 0
@@ -191,12 +190,6 @@ pub each-all : (s f : List ℕ) (j k i : ℕ) (o : List ℕ) (n : ℕ) (q : List
 each-all s f j k i o n q m e h = subst (λ (z : ℕ). EachUpto s f j k z o n q m) e h
 
 -- of an enquiry
-abbrev pub firstAt : List ℕ → ℕ → ℕ
-firstAt f T = getD f (200 + T) 0
-
-abbrev pub countAt : List ℕ → ℕ → ℕ
-countAt f T = getD f (232 + T) 0
-
 -- what load worked out of T's class and sources
 pub record Sourced (f : List ℕ) (T : ℕ) (t : Table) : Type 0 where
   pub enquiry : Tests (eqb (getD f (168 + T) 0) 3) (Contains t (task № T) class (class-is an-enquiry))
