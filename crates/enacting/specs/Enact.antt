@@ -210,6 +210,13 @@ writes-none s a b k n f g =
 pub two-set : (s : List ℕ) (i j k n m : ℕ) → ¬ (m ≡ i) → ¬ (m ≡ j) → getD (set (set s i k) j n) m 0 ≡ getD s m 0
 two-set s i j k n m e f = getD-set-other (set s i k) j m n 0 f ∙ getD-set-other s i m k 0 e
 
+-- two cells stay
+abbrev Kept : List ℕ → List ℕ → ℕ → ℕ → Type 0
+Kept s q x y = (getD q x 0 ≡ getD s x 0) × (getD q y 0 ≡ getD s y 0)
+
+same : (s q : List ℕ) (x y : ℕ) → q ≡ s → Kept s q x y
+same s q x y e = (ap (λ (i : List ℕ). getD i x 0) e, ap (λ (i : List ℕ). getD i y 0) e)
+
 module _ (s : List ℕ) (a b k n : ℕ) (q : List ℕ) (w : Writes s a b k n q) (room : 776 ≤ length s) {α β x y : ℕ} where
   -- the row is that of the spot
   written : Numbered α β x y → a ≡ α → b ≡ β → (getD q x 0 ≡ k) × (getD q y 0 ≡ n)
@@ -224,30 +231,24 @@ module _ (s : List ℕ) (a b k n : ℕ) (q : List ℕ) (w : Writes s a b k n q) 
       (ap (λ (i : List ℕ). getD i x 0) q′ ∙ ap (λ (i : ℕ). getD (set (set s (648 + d) k) (712 + d) n) i 0) ex ∙ getD-set-other (set s (648 + d) k) (712 + d) (648 + d) n 0 (λ z. omega arith) ∙ getD-set-same s (648 + d) k 0 (omega arith),
        ap (λ (i : List ℕ). getD i y 0) q′ ∙ ap (λ (i : ℕ). getD (set (set s (648 + d) k) (712 + d) n) i 0) ey ∙ getD-set-same (set s (648 + d) k) (712 + d) n 0 (simp length-set (omega arith)))
 
-  abbrev Kept : Type 0
-  Kept = (getD q x 0 ≡ getD s x 0) × (getD q y 0 ≡ getD s y 0)
-
-  same : q ≡ s → Kept
-  same e = (ap (λ (i : List ℕ). getD i x 0) e, ap (λ (i : List ℕ). getD i y 0) e)
-
   -- it is another's
-  left : Numbered α β x y → (j : ℕ) → b ≡ 8 + 64 * j → ¬ ((a ≡ α) × (b ≡ β)) → Kept
-  left h j eb no = go (decLt a 32) (decLt b 648)
+  left : Numbered α β x y → (j : ℕ) → b ≡ 8 + 64 * j → ¬ ((a ≡ α) × (b ≡ β)) → Kept s q x y
+  left h j eb off = go (decLt a 32) (decLt b 648)
     where
       task-away : a < 32 → b < 648 → Numbered α β x y → (¬ (x ≡ b + a)) × (¬ (x ≡ b + a + 32)) × (¬ (y ≡ b + a)) × (¬ (y ≡ b + a + 32))
-      task-away l m (as-task i li ei la ex ey) = (λ z. no (omega arith, omega arith), λ z. omega arith, λ z. omega arith, λ z. no (omega arith, omega arith))
+      task-away l m (as-task i li ei la ex ey) = (λ z. off (omega arith, omega arith), λ z. omega arith, λ z. omega arith, λ z. off (omega arith, omega arith))
       task-away l m (as-item ei d ld ea ex ey) = (λ z. omega arith, λ z. omega arith, λ z. omega arith, λ z. omega arith)
 
       item-away : (d : ℕ) → d < 64 → a ≡ 65536 + d → b ≡ 648 → Numbered α β x y → (¬ (x ≡ 648 + d)) × (¬ (x ≡ 712 + d)) × (¬ (y ≡ 648 + d)) × (¬ (y ≡ 712 + d))
       item-away d l m e (as-task i li ei la ex ey) = (λ z. omega arith, λ z. omega arith, λ z. omega arith, λ z. omega arith)
-      item-away d l m e (as-item ei c ld ea ex ey) = (λ z. no (omega arith, omega arith), λ z. omega arith, λ z. omega arith, λ z. no (omega arith, omega arith))
+      item-away d l m e (as-item ei c ld ea ex ey) = (λ z. off (omega arith, omega arith), λ z. omega arith, λ z. omega arith, λ z. off (omega arith, omega arith))
 
-      item : Dec ((d : ℕ) × (d < 64) × (a ≡ 65536 + d) × (b ≡ 648)) → ¬ ((a < 32) × (b < 648)) → Kept
+      item : Dec ((d : ℕ) × (d < 64) × (a ≡ 65536 + d) × (b ≡ 648)) → ¬ ((a < 32) × (b < 648)) → Kept s q x y
       item (yes z) m =
           let e = w .of-item (z .0) (z .1) (z .2) (z .3) (let i = z .1 in omega arith) in
           let f = item-away (z .0) (z .1) (z .2) (z .3) h in
           (ap (λ (i : List ℕ). getD i x 0) e ∙ two-set s (648 + z .0) (712 + z .0) k n x (f .0) (f .1), ap (λ (i : List ℕ). getD i y 0) e ∙ two-set s (648 + z .0) (712 + z .0) k n y (f .2) (f .3))
-      item (no z) m = same (w .other m z)
+      item (no z) m = same s q x y (w .other m z)
 
       item? : Dec ((d : ℕ) × (d < 64) × (a ≡ 65536 + d) × (b ≡ 648))
       item? = at (decLt a 65536) (decLt a 65600) (ℕ-discrete b 648)
@@ -258,7 +259,7 @@ module _ (s : List ℕ) (a b k n : ℕ) (q : List ℕ) (w : Writes s a b k n q) 
           at (no u) (yes v) (no m) = no (λ z. m (z .3))
           at (no u) (yes v) (yes m) = yes (a - 65536, omega arith, omega arith, m)
 
-      go : Dec (a < 32) → Dec (b < 648) → Kept
+      go : Dec (a < 32) → Dec (b < 648) → Kept s q x y
       go (yes l) (yes m) =
           let e = w .of-task l m (omega arith) in
           let f = task-away l m h in
@@ -298,9 +299,9 @@ upto-more s o n k v q {a} {b} {g} {u} lk len ea eb eg eu wr h read room c p x y 
             go (no m) = let j : i .0 ≡ k = (let l = i .1 in omega arith) in never r (subst (λ (w : ℕ). Says o w c p r) j (i .2))
 
     stay : ¬ ((a ≡ component-code c) × (b ≡ mine .0)) → Point s o (k + 1) q c p x y
-    stay no =
-        carried (λ r z. no (ea ∙ z .component, eb ∙ column-same (z .property) (mine .1)))
-        (left v a b g u q wr wide (mine .2) (place .0) (place .1) no) before
+    stay off =
+        carried (λ r z. off (ea ∙ z .component, eb ∙ column-same (z .property) (mine .1)))
+        (left v a b g u q wr wide (mine .2) (place .0) (place .1) off) before
 
     split : Dec (a ≡ component-code c) → Dec (b ≡ mine .0) → Point s o (k + 1) q c p x y
     split (yes e) (yes f) =
