@@ -48,7 +48,13 @@ pub fn gather(b: &[u8], v: Value, d: usize, news: &mut [u32], texts: &mut [u8])
     if same(&cells, &out, d, news, texts) {
         return;
     }
-    items::encode(b, values::single(Scalar::Unknown), place, &mut cells, &mut out);
+    items::encode(
+        b,
+        values::single(Scalar::Unknown),
+        place,
+        &mut cells,
+        &mut out,
+    );
     keep(&cells, &out, d, 2, news, texts);
 }
 

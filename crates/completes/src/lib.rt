@@ -29,7 +29,13 @@ fn idle(starts: [bool; 32], discards: [bool; 32], initialises: [bool; 32], t: us
     waits::both(!a, waits::both(!b, !c))
 }
 
-fn settled(s: &[u32], starts: [bool; 32], discards: [bool; 32], initialises: [bool; 32], t: usize) -> bool
+fn settled(
+    s: &[u32],
+    starts: [bool; 32],
+    discards: [bool; 32],
+    initialises: [bool; 32],
+    t: usize,
+) -> bool
     ensures { λ r. ⌜ r ≡ settledF (now (s .entry)) starts discards initialises t ⌝ }
 {
     let a = still(s, t);
@@ -102,5 +108,8 @@ pub fn complete_one(s: &[u32], f: &[u32], pending: [bool; 32], t: usize) -> bool
     let sources = all_answered(s, f, blocks::cell(f, 200 + t), blocks::cell(f, 232 + t));
     let no_plan = state::cell(f, 168, t) != 1;
     let over = waits::either(no_plan, !waits::mark(pending, t));
-    waits::both(runs, waits::both(sources, waits::both(confirmed(s, f, t), over)))
+    waits::both(
+        runs,
+        waits::both(sources, waits::both(confirmed(s, f, t), over)),
+    )
 }

@@ -175,7 +175,7 @@ module _ {s : List ℕ} {t : Table} (rows : Rows s t) {f : List ℕ} {w : List (
         let k = known P e in
         let q = p .there e in
         let u : Tests (rowIs s 8 (suc P - 1) 5 2 && (discardableF s T && (marked m (suc P - 1) || marked ended (suc P - 1)))) (Contains t (task № P) state (state-is in-progress) × (Discardable t T × (DiscardConditions t P ⊎ TerminationConditions t P)))
-              = rw d (is-and (in-test rows P in-progress (q .0)) (is-and (discardable-test T l) (is-or (k .0) (k .1)))) in
+        = rw d (is-and (in-test rows P in-progress (q .0)) (is-and (discardable-test T l) (is-or (k .0) (k .1)))) in
         let z : eqb (suc P) 0 ≡ false = ne-eqb (suc P) 0 (λ r. absurd (let b : ⊥ = omega arith in b)) in
         rw z (is-as (λ y. (P, q .1, y)) (λ y. subst (λ (Q : ℕ). Contains t (task № Q) state (state-is in-progress) × (Discardable t T × (DiscardConditions t Q ⊎ TerminationConditions t Q))) (same-plan (y .1) (q .1)) (y .2)) u)
 

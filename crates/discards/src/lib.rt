@@ -41,7 +41,10 @@ fn discardable(s: &[u32], t: usize) -> bool
     let runs = state::row_is(s, Property::STATE, t, 5, 2);
     let waiting = state::row_is(s, Property::STATE, t, 5, 1);
     let done = state::row_is(s, Property::STATE, t, 5, 4);
-    waits::either(runs, waits::either(waiting, waits::both(done, waits::timed(s, t))))
+    waits::either(
+        runs,
+        waits::either(waiting, waits::both(done, waits::timed(s, t))),
+    )
 }
 
 // 8.6.3, 2c: all tasks that it waits for are discarded, or the precondition is not true.
@@ -58,7 +61,10 @@ fn own(s: &[u32], f: &[u32], b: Before, pre: bool, wait: bool, t: usize) -> bool
     let allowed = conditions::parent_runs(s, f, t);
     let dormant = state::row_is(s, Property::STATE, t, 5, 1);
     let scheduled = conditions::schedule(b, wait);
-    waits::both(allowed, waits::both(dormant, waits::both(scheduled, unwanted(b, pre))))
+    waits::both(
+        allowed,
+        waits::both(dormant, waits::both(scheduled, unwanted(b, pre))),
+    )
 }
 
 // 8.6.3, 1: the parent, if any, is in progress and discarded or terminated.

@@ -223,13 +223,15 @@ module _ (s : List ℕ) (a b k n : ℕ) (q : List ℕ) (w : Writes s a b k n q) 
   written (as-task j lj eb la ex ey) e f =
       let q′ = w .of-task (omega arith) (omega arith) (omega arith) in
       let u : x ≡ b + a = omega arith in
-      let v : y ≡ b + a + 32 = omega arith in
-      (ap (λ (i : List ℕ). getD i x 0) q′ ∙ ap (λ (i : ℕ). getD (set (set s (b + a) k) (b + a + 32) n) i 0) u ∙ getD-set-other (set s (b + a) k) (b + a + 32) (b + a) n 0 (λ z. omega arith) ∙ getD-set-same s (b + a) k 0 (omega arith),
-       ap (λ (i : List ℕ). getD i y 0) q′ ∙ ap (λ (i : ℕ). getD (set (set s (b + a) k) (b + a + 32) n) i 0) v ∙ getD-set-same (set s (b + a) k) (b + a + 32) n 0 (simp length-set (omega arith)))
+      let v : y ≡ b + a + 32 = omega arith in (
+        ap (λ (i : List ℕ). getD i x 0) q′ ∙ ap (λ (i : ℕ). getD (set (set s (b + a) k) (b + a + 32) n) i 0) u ∙ getD-set-other (set s (b + a) k) (b + a + 32) (b + a) n 0 (λ z. omega arith) ∙ getD-set-same s (b + a) k 0 (omega arith),
+        ap (λ (i : List ℕ). getD i y 0) q′ ∙ ap (λ (i : ℕ). getD (set (set s (b + a) k) (b + a + 32) n) i 0) v ∙ getD-set-same (set s (b + a) k) (b + a + 32) n 0 (simp length-set (omega arith)),
+      )
   written (as-item eb d ld ea ex ey) e f =
-      let q′ = w .of-item d ld (e ∙ ea) (f ∙ eb) (omega arith) in
-      (ap (λ (i : List ℕ). getD i x 0) q′ ∙ ap (λ (i : ℕ). getD (set (set s (648 + d) k) (712 + d) n) i 0) ex ∙ getD-set-other (set s (648 + d) k) (712 + d) (648 + d) n 0 (λ z. omega arith) ∙ getD-set-same s (648 + d) k 0 (omega arith),
-       ap (λ (i : List ℕ). getD i y 0) q′ ∙ ap (λ (i : ℕ). getD (set (set s (648 + d) k) (712 + d) n) i 0) ey ∙ getD-set-same (set s (648 + d) k) (712 + d) n 0 (simp length-set (omega arith)))
+      let q′ = w .of-item d ld (e ∙ ea) (f ∙ eb) (omega arith) in (
+        ap (λ (i : List ℕ). getD i x 0) q′ ∙ ap (λ (i : ℕ). getD (set (set s (648 + d) k) (712 + d) n) i 0) ex ∙ getD-set-other (set s (648 + d) k) (712 + d) (648 + d) n 0 (λ z. omega arith) ∙ getD-set-same s (648 + d) k 0 (omega arith),
+        ap (λ (i : List ℕ). getD i y 0) q′ ∙ ap (λ (i : ℕ). getD (set (set s (648 + d) k) (712 + d) n) i 0) ey ∙ getD-set-same (set s (648 + d) k) (712 + d) n 0 (simp length-set (omega arith)),
+      )
 
   -- it is another's
   left : Numbered α β x y → (j : ℕ) → b ≡ 8 + 64 * j → ¬ ((a ≡ α) × (b ≡ β)) → Kept s q x y
@@ -363,7 +365,6 @@ same-row e = cc
 module _ (s o v : List ℕ) (n : ℕ) (t u : Table) (R N : Cycle.Rows) (held : Holds o n R) (small : (c : Component) (p : Property) (r : RowValue) → R c p r → Small c)
     (agree : (c : Component) (p : Property) (x y : ℕ) (r : RowValue) → Spot c p x y → R c p r ↔ N c p r) (room : 4 * n ≤ length o) (size : 776 ≤ length s)
     (shown : Spots s t) (apart : (c : Component) (p : Property) (x y : ℕ) → Spot c p x y → ¬ Collision N c p) (enacts : Enacts s o n v) (after : (c : Component) (p : Property) → Enacted N c p (t c p) (u c p)) where
-
   asked-of : {c : Component} {p : Property} {x y i : ℕ} {r : RowValue} → Spot c p x y → i < n → Says o i c p r → N c p r
   asked-of {c} {p} {x} {y} {i} {r} spot m says =
       let z = held .asked i m in

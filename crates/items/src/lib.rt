@@ -113,14 +113,7 @@ fn shape(v: Value) -> u32
 }
 
 // Writes the i-th element, whose text has its place among the text bytes.
-fn put_element(
-    b: &[u8],
-    x: Scalar,
-    place: usize,
-    cells: &mut [u32],
-    out: &mut [u8],
-    i: usize,
-)
+fn put_element(b: &[u8], x: Scalar, place: usize, cells: &mut [u32], out: &mut [u8], i: usize)
     requires { ⌜ (i < 16) × (place < 100000) ⌝ }
     ensures { λ r. ⌜ PutElement (now (b .entry)) x place i (now (cells .entry)) (now (cells .exit)) (now (out .entry)) (now (out .exit)) ⌝ }
 {

@@ -68,7 +68,13 @@ fn complete(f: &[u32], t: u32, clock: u32, out: &mut [u32], n: usize) -> usize
     let b = changes::push(out, a, t, 520, 4, clock);
     let c = changes::push(out, b, t, 328, 1, 0);
     let i = t as usize;
-    assigns(f, blocks::cell(f, 616 + i), blocks::cell(f, 648 + i), out, c)
+    assigns(
+        f,
+        blocks::cell(f, 616 + i),
+        blocks::cell(f, 648 + i),
+        out,
+        c,
+    )
 }
 
 // 8.5.1: the rows of the clause that fits.

@@ -49,11 +49,11 @@ pub each-more : (s f : List ℕ) (now : ℕ) (i b d e : List Bool) (k : ℕ) (o 
 each-more s f now i b d e k o u v q m l h g t n all = appends-as (λ c p r. (to c p r, back c p r)) (appends-more (h t n all) (g t (all k (l n))))
   where
     to : (c : Component) (p : Property) (r : RowValue) → Either (ChangesS f t now k) (AskedS f t now k) c p r → ChangesS f t now (k + 1) c p r
-    to c p r (first (asked-at a z)) = asked-at (omega arith) z
-    to c p r (second z) = asked-at (omega arith) z
+    to c p r (first (asked-at {T = T} a z)) = asked-at {T = T} (omega arith) z
+    to c p r (second z) = asked-at {T = k} (omega arith) z
 
     back : (c : Component) (p : Property) (r : RowValue) → ChangesS f t now (k + 1) c p r → Either (ChangesS f t now k) (AskedS f t now k) c p r
-    back c p r (asked-at {T} a z) = go (decLt T k)
+    back c p r (asked-at {T = T} a z) = go (decLt T k)
       where
         go : Dec (T < k) → Either (ChangesS f t now k) (AskedS f t now k) c p r
         go (yes j) = first (asked-at j z)
@@ -88,10 +88,10 @@ few-none f h l = record { next = λ i j. omega arith; most = omega arith }
 pub few-more : (f : List ℕ) (k v m : ℕ) → m ≤ v + (6 + (countAt f k + assignsAt f k)) → Counted f k v → Counted f (k + 1) m
 few-more f k v m e c h l =
     let x = c h (omega arith) in
-    let y = x .next {k} (omega arith) (omega arith) in
+    let y = x .next {U = k} (omega arith) (omega arith) in
     record {
-      next = λ {U} i j. (let a = h .sources {k} {U} (omega arith) j in let b = h .assignments {k} {U} (omega arith) j in omega arith);
-      most = (let a = h .most-sources {k} (omega arith) in let b = h .most-assignments {k} (omega arith) in omega arith);
+      next = λ {U = U} i j. (let a = h .sources {T = k} {U = U} (omega arith) j in let b = h .assignments {T = k} {U = U} (omega arith) j in omega arith);
+      most = (let a = h .most-sources {T = k} (omega arith) in let b = h .most-assignments {T = k} (omega arith) in omega arith);
     }
 
 pub few-all : (f : List ℕ) (k m : ℕ) → (tasksIn f ≤ 32 → k ≡ tasksIn f) → Counted f k m → Few f m

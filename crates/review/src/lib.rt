@@ -34,7 +34,18 @@ fn each(
     let mut t: u32 = 0;
     while t < n {
         let i = t as usize;
-        m = operations::review_one(s, f, clock, t, initialises[i], starts[i], discards[i], completes[i], out, m);
+        m = operations::review_one(
+            s,
+            f,
+            clock,
+            t,
+            initialises[i],
+            starts[i],
+            discards[i],
+            completes[i],
+            out,
+            m,
+        );
         t += 1;
     }
     m

@@ -153,7 +153,6 @@ request-more s d o n q m {b} e f h t S rows l i =
 pub data Requested (t : Table) (j k : ℕ) (c : Component) (p : Property) (r : RowValue) : Type 0 where
   requested-by : (i : ℕ) → i < k → InitialiseSource t (source № (j + i)) c p r → Requested t j k c p r
 
-
 -- the items of these sources
 abbrev pub ItemsOf : List ℕ → Table → ℕ → ℕ → Type 0
 ItemsOf f t j k = (i : ℕ) → i < k → (itemAt f (j + i) < 64) × Contains t (source № (j + i)) data-item-of (component-is (data-item № (itemAt f (j + i))))

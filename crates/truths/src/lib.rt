@@ -34,7 +34,18 @@ pub fn value_at(x: &[u32], b: &[u8], f: &[u32], s: &[u32], task: usize, end: usi
     let nums = part(s, 1864, 1088);
     let tasks = part(f, 1192, parts::number(f, 0));
     let states = part(s, 40, 32);
-    evaluator::value_of(x, b, names, tags, nums, tasks, states, task, end, Expression::DEPTH)
+    evaluator::value_of(
+        x,
+        b,
+        names,
+        tags,
+        nums,
+        tasks,
+        states,
+        task,
+        end,
+        Expression::DEPTH,
+    )
 }
 
 fn is_true(s: Scalar) -> bool

@@ -58,14 +58,24 @@ fn noted(s: &[u32], waits: bool, a: usize, b: Before) -> Before
     let over = both(b.over, either(free, ended(s, a)));
     let completed = either(b.completed, both(waits, done));
     let discarded = both(b.discarded, either(free, dropped));
-    Before { any: any, over: over, completed: completed, discarded: discarded }
+    Before {
+        any: any,
+        over: over,
+        completed: completed,
+        discarded: discarded,
+    }
 }
 
 // Of all 32.
 pub fn antecedents(s: &[u32], row: [bool; 32]) -> Before
     ensures { λ r. ⌜ Upto (now (s .entry)) row 32 r ⌝ }
 {
-    let mut b = Before { any: false, over: true, completed: false, discarded: true };
+    let mut b = Before {
+        any: false,
+        over: true,
+        completed: false,
+        discarded: true,
+    };
     let mut a: usize = 0;
     while a < 32 {
         b = noted(s, row[a], a, b);
@@ -83,4 +93,3 @@ pub fn mark(m: [bool; 32], t: usize) -> bool
     }
     false
 }
-

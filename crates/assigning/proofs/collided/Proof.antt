@@ -26,6 +26,7 @@ loop-again c = (omega arith, below-more _ _ (c .before .before .before .loop .in
 
 returns-2 : tie.Need-returns-2 Inv-loop μ-loop
 returns-2 c = collided-none (c .before .before .before .args .news .now) (c .before .loop .d) (omega arith) (c .before .loop .inv .1)
+
 pub collided-spec : {M : Type 1} → statement M
 collided-spec =
     tie.close

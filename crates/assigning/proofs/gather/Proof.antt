@@ -30,6 +30,7 @@ returns-3 : tie.Need-returns-3
 returns-3 c =
     let a = c .before .before .before .before .before .before .before .before .before .before .before .before .before .before .before .before .before .before .before .before .before .before .before .before .before .before .before .before .before .before .before .before .args in
     gathers-other (a .b .now) (a .v) (a .d) (c .before .before .before .before .before .before .before .before .before .before .before .before .before .before .before .before .before .before .before .before .before .before .before .before .before .before .encode .last .1 .1 .1 .0) (c .before .before .before .before .before .before .before .before .before .before .before .before .before .before .before .before .before .before .before .before .before .before .before .before .before .before .encode .last .1 .1 .1 .1 .0) (c .before .before .before .before .before .before .before .before .before .before .before .encode2 .last .1 .1 .1 .0) (c .before .before .before .before .before .before .before .before .before .before .before .encode2 .last .1 .1 .1 .1 .0) (a .news .now) (c .before .before .before .before .keep2 .last .1 .1 .1 .1 .0) (a .texts .now) (c .before .before .before .before .keep2 .last .1 .1 .1 .1 .1 .0) (c .before .before .before .before .before .before .before .before .before .before .before .before .before .before .single .result) (formed (a .b .now) (a .v) (a .d) (search needs) (search needs) (c .before .before .before .before .before .before .before .before .before .before .before .before .before .before .before .before .before .before .before .before .before .before .before .before .before .before .encode .ensures)) (c .before .before .before .before .before .before .before .before .before .before .before .before .before .before .before .before .before .before .before .before .before .before .cell .ensures) (c .before .before .before .before .before .before .before .before .before .before .before .before .before .before .before .before .before .before .before .before .before .if1 .left) (λ z. contra (sym (c .before .before .before .before .before .before .before .before .before .before .before .before .before .before .before .if2 .left) ∙ c .before .before .before .before .before .before .before .before .before .before .before .before .before .before .before .before .same .ensures .1 z)) (c .before .before .before .before .before .before .before .before .before .before .before .before .before .before .single .ensures) (formed (a .b .now) (c .before .before .before .before .before .before .before .before .before .before .before .before .before .before .single .result) (a .d) (search needs) (search needs) (c .before .before .before .before .before .before .before .before .before .before .before .encode2 .ensures)) (c .before .before .before .before .keep2 .ensures)
+
 pub gather-spec : {M : Type 1} → statement M
 gather-spec =
     tie.close

@@ -11,6 +11,7 @@ returns c = (λ e. (c .before .before .same-cells .ensures .0 (c .before .if1 .t
 
 returns-2 : tie.Need-returns-2
 returns-2 c = (λ e. contra e, λ h. contra (sym (c .if1 .left) ∙ c .before .same-cells .ensures .1 (h .0)))
+
 pub same-spec : {M : Type 1} → statement M
 same-spec =
     tie.close

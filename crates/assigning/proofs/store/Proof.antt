@@ -34,6 +34,7 @@ returns c =
     let a = c .before .before .before .before .before .before .args in
     let lp = c .before .loop in
     stored-all (a .news .now) (a .texts .now) (lp .d) (a .s .now) (lp .s) (a .b .now) (lp .b) (omega arith) (lp .inv .1)
+
 pub store-spec : {M : Type 1} → statement M
 store-spec =
     tie.close

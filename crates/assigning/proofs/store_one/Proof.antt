@@ -13,6 +13,7 @@ returns-2 : tie.Need-returns-2
 returns-2 c =
     let a = c .before .before .before .before .before .before .before .before .before .before .before .before .before .before .before .before .before .before .args in
     stored-one (a .news .now) (a .texts .now) (a .d) (a .s .now) (c .before .before .before .before .before .before .before .before .before .before .copy-cells .last .1 .1 .0) (c .before .before .before .before .before .before .copy-cells2 .last .1 .1 .0) (a .b .now) (c .before .before .copy-bytes .last .1 .1 .0) (c .before .before .before .before .before .before .before .before .before .before .before .before .before .before .before .before .before .before .pre) (c .before .before .before .before .before .before .before .before .before .before .before .before .before .cell .ensures) (c .before .before .before .before .before .before .before .before .before .before .before .before .if1 .left) (c .before .before .before .before .before .before .before .before .before .before .copy-cells .ensures) (c .before .before .before .before .before .before .copy-cells2 .ensures) (c .before .before .copy-bytes .ensures)
+
 pub store-one-spec : {M : Type 1} → statement M
 store-one-spec =
     tie.close

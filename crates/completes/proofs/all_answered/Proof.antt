@@ -32,6 +32,7 @@ returns-2 : tie.Need-returns-2 Inv-loop μ-loop
 returns-2 c =
     let a = c .before .before .before .before .args in
     all-end (λ (j : ℕ). answeredF (a .s .now) (a .f .now) (a .first + j)) (c .before .loop .i) (a .count) (omega arith) (c .before .loop .inv .1)
+
 pub all-answered-spec : {M : Type 1} → statement M
 all-answered-spec =
     tie.close

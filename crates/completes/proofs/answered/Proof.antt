@@ -5,6 +5,7 @@ use Rattle.completes.proofs.answered.Tie as tie
 
 returns : tie.Need-returns
 returns c = cc
+
 pub answered-spec : {M : Type 1} → statement M
 answered-spec =
     tie.close

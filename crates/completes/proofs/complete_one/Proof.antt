@@ -11,6 +11,7 @@ returns c =
     let a = c .before .before .before .before .before .before .before .before .before .before .before .before .before .args in
     let h : c .before .before .before .before .before .before .before .all-answered .result ≡ sourcesF (a .s .now) (a .f .now) (a .t) = sources-are (a .s .now) (a .f .now) (a .t) (c .before .before .before .before .before .before .before .before .before .cell .result) (c .before .before .before .before .before .before .before .before .cell2 .result) (c .before .before .before .before .before .before .before .before .before .cell .ensures) (c .before .before .before .before .before .before .before .before .cell2 .ensures) (c .before .before .before .before .before .before .before .all-answered .ensures) in
     cc
+
 pub complete-one-spec : {M : Type 1} → statement M
 complete-one-spec =
     tie.close

@@ -5,6 +5,7 @@ use Rattle.completes.proofs.idle.Tie as tie
 
 returns : tie.Need-returns
 returns c = cc
+
 pub idle-spec : {M : Type 1} → statement M
 idle-spec =
     tie.close

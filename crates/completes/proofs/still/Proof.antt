@@ -5,6 +5,7 @@ use Rattle.completes.proofs.still.Tie as tie
 
 returns : tie.Need-returns
 returns c = cc
+
 pub still-spec : {M : Type 1} → statement M
 still-spec =
     tie.close

@@ -35,6 +35,7 @@ returns : tie.Need-returns Inv-loop μ-loop
 returns c =
     let a = c .before .before .before .before .args in
     below-all (a .f .now) (λ C. not (settledF (a .s .now) (a .starts) (a .discards) (a .initialises) C)) (c .before .loop .t) (c .before .loop .m) (omega arith) (c .before .loop .inv .1)
+
 pub unsettled-spec : {M : Type 1} → statement M
 unsettled-spec =
     tie.close

@@ -5,6 +5,7 @@ use Rattle.discards.proofs.discard_one.Tie as tie
 
 returns : tie.Need-returns
 returns c = cc
+
 pub discard-one-spec : {M : Type 1} → statement M
 discard-one-spec =
     tie.close

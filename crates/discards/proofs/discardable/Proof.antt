@@ -5,6 +5,7 @@ use Rattle.discards.proofs.discardable.Tie as tie
 
 returns : tie.Need-returns
 returns c = cc
+
 pub discardable-spec : {M : Type 1} → statement M
 discardable-spec =
     tie.close

@@ -33,6 +33,7 @@ loop-again c =
 
 returns : tie.Need-returns Inv-loop μ-loop
 returns c = below-all (c .before .before .before .before .args .f .now) (endsF (c .before .before .before .before .args .s .now) (c .before .before .before .before .args .f .now)) (c .before .loop .t) (c .before .loop .m) (omega arith) (c .before .loop .inv .1)
+
 pub ended-plans-spec : {M : Type 1} → statement M
 ended-plans-spec =
     tie.close

@@ -5,6 +5,7 @@ use Rattle.discards.proofs.own.Tie as tie
 
 returns : tie.Need-returns
 returns c = cc
+
 pub own-spec : {M : Type 1} → statement M
 own-spec =
     tie.close

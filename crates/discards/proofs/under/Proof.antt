@@ -14,6 +14,7 @@ returns-2 : tie.Need-returns-2
 returns-2 c =
     let z : eqb (c .before .before .before .before .before .before .before .before .before .args .x) 0 ≡ false = ne-eqb (c .before .before .before .before .before .before .before .before .before .args .x) 0 (c .before .before .before .before .before .before .before .if1 .left) in
     rw z (cc)
+
 pub under-spec : {M : Type 1} → statement M
 under-spec =
     tie.close

@@ -18,6 +18,7 @@ returns-2 c = record { size = refl; both = λ l m. absurd (omega arith); other =
 
 returns-3 : tie.Need-returns-3
 returns-3 c = record { size = refl; both = λ l m. absurd (omega arith); other = λ m e f. refl }
+
 pub put-spec : {M : Type 1} → statement M
 put-spec =
     tie.close

@@ -17,6 +17,7 @@ returns-3 c = element-one (c .before .before .args .v) (c .before .before .args 
 
 returns-4 : tie.Need-returns-4
 returns-4 c = element-other (c .before .before .args .v) (c .before .before .args .i) (c .before .if1 .left) (c .if3 .left)
+
 pub element-spec : {M : Type 1} → statement M
 element-spec =
     tie.close (tie.spec (λ c κs. search needs) (λ c κs. search needs) returns returns-2 returns-3 returns-4)

@@ -31,6 +31,7 @@ returns c =
     let a = c .before .before .before .before .before .before .before .before .before .before .before .before .before .before .args in
     let lp = c .before .loop in
     filled-all (a .b .now) (a .v) (a .place) (lp .i) (lp .cells) (lp .out) (omega arith) (lp .inv .3)
+
 pub encode-spec : {M : Type 1} → statement M
 encode-spec =
     tie.close

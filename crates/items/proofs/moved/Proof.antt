@@ -25,15 +25,16 @@ cast-result c =
 returns : tie.Need-returns
 returns c =
     λ k.
-        let w = c .before .before .before .before .wide-of .result .z in
-        let z = c .before .sum .result .z in
-        let h = fit w (c .before .before .before .real-fits .ensures) (c .before .before .if1 .taken) in
-        let e : z ≡ pos (moved w) = c .before .sum .ensures ∙ up w h in
-        let f : SFits w64 z = subst⁻¹ (SFits w64) e (record { sfits = omega (arith, up-small w h) }) in
-        simp (toZ-ofZ f) (ap natAbs e ∙ ap moved (c .before .before .before .before .wide-of .ensures .0))
+    let w = c .before .before .before .before .wide-of .result .z in
+    let z = c .before .sum .result .z in
+    let h = fit w (c .before .before .before .real-fits .ensures) (c .before .before .if1 .taken) in
+    let e : z ≡ pos (moved w) = c .before .sum .ensures ∙ up w h in
+    let f : SFits w64 z = subst⁻¹ (SFits w64) e (record { sfits = omega (arith, up-small w h) }) in
+    simp (toZ-ofZ f) (ap natAbs e ∙ ap moved (c .before .before .before .before .wide-of .ensures .0))
 
 returns-2 : tie.Need-returns-2
 returns-2 c = no-fit (c .before .before .before .args .n .z) (c .before .before .wide-of .result .z) (c .before .before .wide-of .ensures .0) (c .before .real-fits .ensures) (c .if1 .left)
+
 pub moved-spec : {M : Type 1} → statement M
 moved-spec =
     tie.close

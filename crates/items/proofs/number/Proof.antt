@@ -19,6 +19,7 @@ returns-4 c = number-told (c .before .before .before .before .args .place) (c .b
 
 returns-5 : tie.Need-returns-5
 returns-5 c = number-told (c .before .before .before .args .place) (c .before .before .before .args .n) (c .handle .result) (c .before .enum-told2 .given .1) (c .handle .ensures)
+
 pub number-spec : {M : Type 1} → statement M
 number-spec =
     tie.close

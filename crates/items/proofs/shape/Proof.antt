@@ -11,5 +11,6 @@ returns c = shape-list (c .before .before .args .v) (c .size .result) (c .before
 
 returns-2 : tie.Need-returns-2
 returns-2 c = shape-one (c .before .args .v) (c .if1 .left)
+
 pub shape-spec : {M : Type 1} → statement M
 shape-spec = tie.close (tie.spec (λ c κs. search needs) (λ c. search needs) (λ c. search needs) returns returns-2)

@@ -6,6 +6,7 @@ use Rattle.items.proofs.spelt.Tie as tie
 
 returns-5 : tie.Need-returns-5
 returns-5 c = spelt-told (c .before .before .before .before .before .args .b .now) (c .before .before .x .given .1) (c .part5 .ensures)
+
 pub spelt-spec : {M : Type 1} → statement M
 spelt-spec =
     tie.close

@@ -13,5 +13,6 @@ returns c = sym (ne-eqb (c .before .args .x) (c .before .args .p + 1) (λ e. ome
 
 returns-2 : tie.Need-returns-2
 returns-2 c = next-is (c .before .args .x) (c .before .args .p) (c .if1 .left)
+
 pub is-next-spec : {M : Type 1} → statement M
 is-next-spec = tie.close (tie.spec returns (λ c. search needs) returns-2)

@@ -15,6 +15,7 @@ returns-3 : tie.Need-returns-3
 returns-3 c =
     let a = c .before .before .before .before .before .before .before .before .before .args in
     (assign-row (a .f .now) (a .a) (a .out .now) (a .n) (c .before .before .push .last .0) (c .before .before .push .result) (c .before .before .before .before .before .cell .ensures) (c .before .before .push .ensures .0), c .before .before .push .ensures .1)
+
 pub assign-spec : {M : Type 1} → statement M
 assign-spec =
     tie.close

@@ -30,6 +30,7 @@ returns c =
     let a = c .before .before .before .before .args in
     let lp = c .before .loop in
     (assigns-all (a .f .now) (a .first) (a .count) (lp .i) (a .out .now) (a .n) (lp .out) (lp .m) (omega arith) (lp .inv .3), omega arith)
+
 pub assigns-spec : {M : Type 1} → statement M
 assigns-spec =
     tie.close

@@ -32,6 +32,7 @@ returns-5 : tie.Need-returns-5
 returns-5 c =
     let a = c .before .before .before .before .before .before .before .args in
     (rows-5 (a .s .now) (a .f .now) (a .clock) (a .t) (a .initialises) (a .starts) (a .discards) (a .completes) (a .out .now) (a .n) (c .before .before .before .if1 .left) (c .before .before .if2 .left) (c .before .if3 .left) (c .if4 .left), omega arith)
+
 pub review-one-spec : {M : Type 1} → statement M
 review-one-spec =
     tie.close

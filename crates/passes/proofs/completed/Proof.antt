@@ -30,6 +30,7 @@ returns c =
     let a = c .before .before .before .before .before .args in
     let lp = c .before .loop in
     completed-all (a .s .now) (a .f .now) (a .starts) (a .discards) (a .initialises) (c .before .before .unsettled .result) (lp .t) (lp .m) (omega arith) (c .before .before .unsettled .ensures) (lp .inv .2)
+
 pub completed-spec : {M : Type 1} → statement M
 completed-spec =
     tie.close

@@ -29,6 +29,7 @@ returns c =
     let a = c .before .before .before .before .args in
     let lp = c .before .loop in
     discarded-all (a .s .now) (a .f .now) (a .t3) (a .t4) (a .t5) (a .ended) (lp .k) (lp .m) (omega arith) (lp .inv .2)
+
 pub discarded-spec : {M : Type 1} → statement M
 discarded-spec =
     tie.close

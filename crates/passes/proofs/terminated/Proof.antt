@@ -31,6 +31,7 @@ returns c =
     let a = c .before .before .before .before .before .args in
     let lp = c .before .loop in
     terminated-all (a .s .now) (a .f .now) (a .t3) (c .before .before .ended-plans .result) (lp .t) (lp .m) (omega arith) (c .before .before .ended-plans .ensures) (lp .inv .2)
+
 pub terminated-spec : {M : Type 1} → statement M
 terminated-spec =
     tie.close

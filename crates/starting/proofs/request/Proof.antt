@@ -11,12 +11,12 @@ returns : tie.Need-returns
 returns c = (λ t S rows l h. absurd (omega arith), omega arith)
 
 returns-2 : tie.Need-returns-2
-returns-2 c = 
+returns-2 c =
     let a = c .before .before .before .before .before .args in
     (request-none (a .s .now) (a .d) (a .out .now) (a .n) (sym (c .before .requested .ensures) ∙ c .if2 .taken), omega arith)
 
 returns-3 : tie.Need-returns-3
-returns-3 c = 
+returns-3 c =
     let a = c .before .before .before .before .before .before .before .before .before .args in
     let f = c .before .before .before .before .if2 .left in
     let g = c .before .before .before .before .before .requested .ensures in
@@ -26,4 +26,3 @@ pub request-spec : {M : Type 1} → statement M
 request-spec =
     tie.close
     (tie.spec returns (λ c κs. search needs) returns-2 (λ c. search needs) (λ c κs. search needs) (λ c. search needs) returns-3)
-

@@ -31,6 +31,7 @@ returns c =
     let a = c .before .before .before .before .before .before .args in
     let lp = c .before .loop in
     ended-all (table (a .x .now) (a .b .now)) (shownBy (a .f .now) (a .s .now)) (a .f .now) (a .ends) (lp .t) (lp .m) (omega arith) (lp .inv .2)
+
 pub all-ended-spec : {M : Type 1} → statement M
 all-ended-spec =
     tie.close

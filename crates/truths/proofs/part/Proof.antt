@@ -24,6 +24,7 @@ returns-3 c =
     let a = c .before .before .before .args in
     let e : a .a + a .n - a .a ≡ a .n = omega arith in
     rw e (part-is (a .s .now) (a .a) (a .n))
+
 pub part-spec : {M : Type 1} → statement M
 part-spec =
     tie.close

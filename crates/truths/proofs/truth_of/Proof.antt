@@ -10,5 +10,6 @@ returns : tie.Need-returns
 returns c =
     let a = c .before .before .before .before .before .before .before .args in
     truth-is (table (a .x .now) (a .b .now)) (shownBy (a .f .now) (a .s .now)) (a .task) (a .end) (c .before .before .value-at .result) (c .before .before .value-at .ensures) (c .before .scalar-of .ensures) (c .is-true .ensures)
+
 pub truth-of-spec : {M : Type 1} → statement M
 truth-of-spec = tie.close (tie.spec (λ c κs. search needs) (λ c κs. search needs) (λ c κs. search needs) returns)

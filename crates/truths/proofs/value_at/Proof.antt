@@ -13,6 +13,7 @@ returns : tie.Need-returns
 returns c =
     let a = c .before .before .before .before .before .before .before .before .before .before .before .before .args in
     subst (λ (k : Columns). Published (table (a .x .now) (a .b .now)) k (a .task) (a .end) depth-limit (c .value-of .result)) (lent (a .f .now) (a .s .now) (c .before .before .before .before .before .before .before .number .ensures) (c .before .before .before .before .before .before .part .ensures) (c .before .before .before .before .before .part2 .ensures) (c .before .before .before .before .part3 .ensures) (c .before .before .before .number2 .ensures) (c .before .before .part4 .ensures) (c .before .part5 .ensures)) (c .value-of .ensures)
+
 pub value-at-spec : {M : Type 1} → statement M
 value-at-spec =
     tie.close

@@ -11,4 +11,3 @@ returns-2 c = sym (List·getD-eq-default (c .before .args .t1) false (omega arit
 
 pub mark-spec : {M : Type 1} → statement M
 mark-spec = tie.close (tie.spec (λ c. search needs) (λ c. search needs) returns-2)
-
