@@ -3,7 +3,7 @@ use Prim.Native.Nat.{ℕ}
 use mathlib.Core.Path.{_≡_, refl}
 use mathlib.Core.Bool.{Bool, true, false, cond}
 use lib.Dec.{eqb}
-use Rattle.paper_engine.specs.Table.{Table}
+use Rattle.paper_rows.specs.Table.{Table}
 use Rattle.paper_engine.specs.Conditions.{StartConditions, InitialiseConditions, DiscardConditions, CompleteConditions}
 use Rattle.paper_engine.specs.Operations.{Clause, §8·5·1-1, §8·5·1-2, §8·5·1-3, §8·5·1-4, §8·5·1-5, Review, review-1, review-2, review-3, review-4, review-5}
 use Rattle.waits.specs.Booleans.{Tests}

@@ -9,7 +9,7 @@ use mathlib.Core.Option.{Option, none, some}
 use Rattle.paper_expressions.specs.Laws.Tests.{two, contra}
 use Rattle.paper_expressions.specs.Values.{in-progress, discarded, completed}
 use Rattle.paper_expressions.specs.View.{At}
-use Rattle.paper_engine.specs.Table.{task, data-item, source, Component, _№_, a-plan, class, state, parent-plan, confirmatory, confirmed, optional, sources, data-item-of, mandatory, requested, RowValue, state-is, class-is, component-is, components-are, truth-row, Table, Contains}
+use Rattle.paper_rows.specs.Table.{task, data-item, source, Component, _№_, a-plan, class, state, parent-plan, confirmatory, confirmed, optional, sources, data-item-of, mandatory, requested, RowValue, state-is, class-is, component-is, components-are, truth-row, Table, Contains}
 use Rattle.paper_engine.specs.Conditions.{StartAt, StartConditions, InitialiseConditions, DiscardConditions, Settled, CompleteConditions}
 use Rattle.state.specs.Cell.{plain-truth, row-is}
 use Rattle.state.specs.Layout.{Rows, rowIs, row-test, confirmed-column}

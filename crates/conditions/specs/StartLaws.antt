@@ -13,7 +13,7 @@ use Rattle.paper_expressions.specs.Laws.Search.{no-clash}
 use Rattle.paper_expressions.specs.Values.{dormant, in-progress, discarded, completed, TaskState}
 use Rattle.paper_expressions.specs.Expressions.{Expr}
 use Rattle.paper_expressions.specs.View.{At, at-first, at-later}
-use Rattle.paper_engine.specs.Table.{task, Component, _№_, Property, state, antecedent-tasks, precondition, wait-condition, trigger, trigger-active, parent-plan, terminal, start-at, RowValue, state-is, time-is, component-is, components-are, expression-is, truth-row, text-row, Table, Contains}
+use Rattle.paper_rows.specs.Table.{task, Component, _№_, Property, state, antecedent-tasks, precondition, wait-condition, trigger, trigger-active, parent-plan, terminal, start-at, RowValue, state-is, time-is, component-is, components-are, expression-is, truth-row, text-row, Table, Contains}
 use Rattle.paper_engine.specs.Conditions.{IsTrue, StartAt, ScheduleConditions, SomeCompleted, ScheduledStartConditions, StartCase, start-2a, start-2b, start-2c, StartConditions, InitialiseConditions, initialise-1, initialise-2a, initialise-2b}
 use Rattle.state.specs.Cell.{state-code, plain-state, plain-truth, time-there, time-number}
 use Rattle.state.specs.Layout.{Rows, rowIs, row-test, state-column, trigger-column, start-column}

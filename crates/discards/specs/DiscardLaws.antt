@@ -13,9 +13,9 @@ use Rattle.paper_expressions.specs.Laws.Search.{no-clash}
 use Rattle.paper_expressions.specs.Values.{dormant, in-progress, discarded, completed}
 use Rattle.paper_expressions.specs.Expressions.{Expr}
 use Rattle.paper_expressions.specs.View.{At, at-first}
-use Rattle.paper_engine.specs.Table.{task, Component, _№_, state, antecedent-tasks, precondition, wait-condition, parent-plan, terminal, terminate-condition, RowValue, state-is, component-is, components-are, expression-is, truth-row, Table, Contains}
+use Rattle.paper_rows.specs.Table.{task, Component, _№_, state, antecedent-tasks, precondition, wait-condition, parent-plan, terminal, terminate-condition, RowValue, state-is, component-is, components-are, expression-is, truth-row, Table, Contains}
 use Rattle.paper_engine.specs.Conditions.{IsTrue, StartAt, ScheduleConditions, TerminationConditions, termination-1, termination-2, Discardable, discardable-in-progress, discardable-dormant, discardable-completed, ParentAllows, no-parent-plan, parent-in-progress, Unwanted, unwanted-i, unwanted-ii, DiscardConditions, discard-1i, discard-1ii, discard-2}
-use Rattle.paper_engine.specs.Laws.Deciding.{Holds, it-holds, holds-none, holds, expressionF, expression-has}
+use Rattle.paper_rows.specs.Laws.Seen.{expressionF, sees-expression, unseen}
 use Rattle.state.specs.Layout.{Rows, rowIs}
 use Rattle.waits.specs.Booleans.{Tests, allF, anyF, is-and, is-or, is-not, is-if, is-as, is-all}
 use Rattle.waits.specs.Twins.{marked, waiting, timedF, overF, discardedF, scheduleF, parentAt, parentF}
@@ -119,14 +119,14 @@ module _ {s : List ℕ} {t : Table} (rows : Rows s t) {f : List ℕ} {w : List (
             unwanted-i c (λ j B b. let k = mine rows worked T l .of c b in let e : k .0 ≡ B = same-task (k .2) refl in subst (λ (y : ℕ). Contains t (task № y) state (state-is discarded)) e (d (k .0) (k .1) (k .3)))
 
         denied : ¬ Allowed t precondition T → Unwanted t T
-        denied d = go (holds expression-is expressionF expression-has (λ x. refl) (t (task № T) precondition))
+        denied d = go (expressionF (t (task № T) precondition)) refl
           where
             same : {a c : Expr} → t (task № T) precondition ≡ some (expression-is a) → t (task № T) precondition ≡ some (expression-is c) → a ≡ c
             same x y = cc
 
-            go : Holds expression-is (t (task № T) precondition) → Unwanted t T
-            go (it-holds e q) = unwanted-ii q (λ z. d (λ a c. subst (λ (y : Expr). IsTrue t y T) (same q c) z))
-            go (holds-none k) = absurd (d (λ a c. absurd (k a c)))
+            go : (s : Option Expr) → expressionF (t (task № T) precondition) ≡ s → Unwanted t T
+            go (some e) k = let q = sees-expression .has (t (task № T) precondition) e k in unwanted-ii q (λ z. d (λ a c. subst (λ (y : Expr). IsTrue t y T) (same q c) z))
+            go none k = absurd (d (λ a c. absurd (unseen sees-expression k c)))
 
         to : (Some × Dropped) ⊎ (¬ Allowed t precondition T) → Unwanted t T
         to (inl z) = let d = mine rows worked T l .all (z .0 .1) (z .0 .2) in found (d .0) (d .1) (z .0 .0) (d .2) (d .3) (z .1)

@@ -12,7 +12,7 @@ use lib.Dec.{eqb}
 use lib.ListN.{getD, set, length, length-set}
 use lib.Seq.{getD-set-same, getD-set-other}
 use Rattle.paper_expressions.specs.Laws.Search.{no-clash}
-use Rattle.paper_engine.specs.Table.{Kind, task, data-item, candidate, argument, parameter, source, warning-condition, Component, _№_, Property, state, trigger-active, confirmed, cycle-count, nbr-cycles-value, start-at, in-progress-time, discarded-time, completed-time, actual-procedure, requested, value, RowValue, unknown-row, Table}
+use Rattle.paper_rows.specs.Table.{Kind, task, data-item, candidate, argument, parameter, source, warning-condition, Component, _№_, Property, state, trigger-active, confirmed, cycle-count, nbr-cycles-value, start-at, in-progress-time, discarded-time, completed-time, actual-procedure, requested, value, RowValue, unknown-row, Table}
 use Rattle.paper_engine.specs.Cycle.{OnlyRow, Collision, Enacted, not-named, enact-c, enact-d}
 use Rattle.paper_engine.specs.Cycle as Cycle
 use Rattle.state.specs.Cell.{Cell, one-row}

@@ -9,7 +9,7 @@ use mathlib.Core.List.{List, [], _∷_}
 use lib.ListN.{length, getD}
 use Rattle.paper_expressions.specs.Laws.Parentheses.{bare}
 use Rattle.paper_expressions.specs.View.{At}
-use Rattle.paper_guideline.specs.Limits.{text-limit, part-limit}
+use Rattle.paper_guideline.specs.Limits.{guideline-limit, part-limit}
 use Rattle.paper_guideline.specs.Structure.{Outermost}
 use Rattle.parts.specs.Part.{Table, size, Holds}
 use Rattle.leaves.specs.Source.{Source, Clean}
@@ -77,7 +77,7 @@ pub record Wide (t : Table) : Type 0 where
 -- no token passes a limit, and the text none
 pub record Sound (c : Source) : Type 0 where
   pub clean : Clean c []
-  pub short : length (c .text) ≤ text-limit
+  pub short : length (c .text) ≤ guideline-limit
 
 -- the table x has the n rows of a guideline within the limits
 pub record Ready (c : Source) (x : List ℕ) (t : Table) (n : ℕ) (rows : List Row) : Type 0 where

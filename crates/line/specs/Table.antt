@@ -9,7 +9,7 @@ use lib.ListN.{length, getD}
 use Rattle.paper_expressions.specs.Expressions.{Expr}
 use Rattle.paper_expressions.specs.Laws.Parentheses.{bare}
 use Rattle.paper_guideline.specs.Tree.{anywhere}
-use Rattle.paper_guideline.specs.Limits.{text-limit, part-limit}
+use Rattle.paper_guideline.specs.Limits.{guideline-limit, part-limit}
 use Rattle.paper_guideline.specs.Refusals.{text-stage}
 use Rattle.paper_guideline.specs.Laws.RefusalLaws.{le-or-gt}
 use Rattle.paper_guideline.specs.Line.{line-long}
@@ -24,8 +24,8 @@ use Rattle.line.specs.Stages.{few-open, line-tree}
 use Rattle.line.specs.Tests.{nothing-behind}
 use Rattle.line.specs.Texts.{short-texts, all-inside}
 
-short-line : (line : List ℕ) {n : ℕ} → 0 < n → Before line n → length line ≤ text-limit
-short-line line l f = ⊎-elim (λ h. h) (λ h. absurd (f text-stage l (line-long h))) (le-or-gt (length line) text-limit)
+short-line : (line : List ℕ) {n : ℕ} → 0 < n → Before line n → length line ≤ guideline-limit
+short-line line l f = ⊎-elim (λ h. h) (λ h. absurd (f text-stage l (line-long h))) (le-or-gt (length line) guideline-limit)
 
 module _ {line kinds places lengths : List ℕ} where
   -- ---- the parts in the table

@@ -40,7 +40,7 @@ use Rattle.paper_guideline.specs.LeftOut.{left-out-words, left-out-functors, Le
 use Rattle.paper_guideline.specs.Laws.CompleteLaws.{some-expression}
 use Rattle.paper_guideline.specs.Tree.{anywhere, Tree}
 use Rattle.paper_guideline.specs.Laws.TreeLaws.{treeF, tree-read}
-use Rattle.paper_guideline.specs.Limits.{text-limit, token-limit, bracket-limit, decimal-limit, part-limit, depth-limit, parts, depth, longest-list}
+use Rattle.paper_guideline.specs.Limits.{guideline-limit, token-limit, bracket-limit, decimal-limit, part-limit, depth-limit, parts, depth, longest-list}
 use Rattle.paper_guideline.specs.Refusals
 use Refusals.{text-stage, lexical-stage, count-stage, Opening, opens-round, opens-square, TooManyOpen, one-too-many, one-more-open, one-fewer-open, as-many-open, TokenBreach, long-name, long-text, large-integer, large-real, long-fraction}
 use Rattle.paper_guideline.specs.Line
@@ -119,7 +119,7 @@ cut (stuck p) = none
 cut (tokens ts) = cond (leb (length ts) token-limit && leb (openings ts) bracket-limit) (read ts (run G (N ‹Expr› ∷ []) (map terminalF ts))) none
 
 abbrev pub lineF : List ℕ → Option LineAnswer
-lineF line = cond (every (λ (b : ℕ). leb b 127) line && leb (length line) text-limit) (cut (lexF line)) none
+lineF line = cond (every (λ (b : ℕ). leb b 127) line && leb (length line) guideline-limit) (cut (lexF line)) none
 
 -- ---- a test that gave something was passed
 
@@ -171,7 +171,7 @@ open-few (one-more-open {ts} o h) = let e = one-opening ts o in let k = open-few
 open-few (one-fewer-open {t} {ts} o h) = let e = no-fewer t ts in let k = open-few h in omega arith
 open-few (as-many-open {t} {ts} o c h) = let e = no-fewer t ts in let k = open-few h in omega arith
 
-module _ {line : List ℕ} {ts : List Token} (its : Tokens line 0 ts) (low : every (λ (b : ℕ). leb b 127) line ≡ true) (short : length line ≤ text-limit) (few : length ts ≤ token-limit) (shut : openings ts ≤ bracket-limit) where
+module _ {line : List ℕ} {ts : List Token} (its : Tokens line 0 ts) (low : every (λ (b : ℕ). leb b 127) line ≡ true) (short : length line ≤ guideline-limit) (few : length ts ≤ token-limit) (shut : openings ts ≤ bracket-limit) where
   not-text : ¬ LineBreach line text-stage
   not-text (line-high-byte {b} a h) = let l = leb-true b 127 (at-every (λ (x : ℕ). leb x 127) a low) in omega arith
   not-text (line-long h) = omega arith
@@ -308,7 +308,7 @@ module _ {line : List ℕ} {ts : List Token} (its : Tokens line 0 ts) {a : LineA
       refuses : {r : List ℕ} → accept ≡ refuse r → ⊥
       refuses e = let z : _≡_ {A = ℕ} 0 1 = cc in omega arith
 
-cut-is : {line : List ℕ} {a : LineAnswer} → every (λ (b : ℕ). leb b 127) line ≡ true → length line ≤ text-limit → (x : Lexed) → Is line 0 x → cut x ≡ some a → LineAnswers line a
+cut-is : {line : List ℕ} {a : LineAnswer} → every (λ (b : ℕ). leb b 127) line ≡ true → length line ≤ guideline-limit → (x : Lexed) → Is line 0 x → cut x ≡ some a → LineAnswers line a
 cut-is low short (stuck p) h k = absurd (no-clash (cc))
 cut-is low short (tokens ts) h k =
     let few = leb (length ts) token-limit in
@@ -320,9 +320,9 @@ cut-is low short (tokens ts) h k =
 pub computed : (line : List ℕ) {a : LineAnswer} → lineF line ≡ some a → LineAnswers line a
 computed line e =
     let low = every (λ (b : ℕ). leb b 127) line in
-    let short = leb (length line) text-limit in
+    let short = leb (length line) guideline-limit in
     let p = passed (low && short) e in
-    cut-is (and-l low short (p .0)) (leb-true (length line) text-limit (and-r low short (p .0))) (lexF line) (lexed line) (p .1)
+    cut-is (and-l low short (p .0)) (leb-true (length line) guideline-limit (and-r low short (p .0))) (lexF line) (lexed line) (p .1)
 
 -- ---- the tree alone, whatever its type
 

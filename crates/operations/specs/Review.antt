@@ -5,7 +5,7 @@ use mathlib.Core.Bool.{Bool, true, false}
 use mathlib.Core.Logic.{_↔_}
 use mathlib.Core.List.{List}
 use Rattle.paper_expressions.specs.Laws.Tests.{contra}
-use Rattle.paper_engine.specs.Table.{Component, Property, RowValue, Table}
+use Rattle.paper_rows.specs.Table.{Component, Property, RowValue, Table}
 use Rattle.paper_engine.specs.Conditions.{StartConditions, InitialiseConditions, DiscardConditions, CompleteConditions}
 use Rattle.paper_engine.specs.Operations.{§8·5·1-1, §8·5·1-2, §8·5·1-3, §8·5·1-4, Review, review-1, review-2, review-3, review-4, Initialise, Start, Discard}
 use Rattle.waits.specs.Booleans.{Tests}

@@ -10,7 +10,7 @@ use mathlib.Core.List.{List}
 use lib.IntN.{pos}
 use lib.ListN.{getD}
 use Rattle.paper_expressions.specs.Values.{dormant, discarded, completed}
-use Rattle.paper_engine.specs.Table.{task, data-item, Component, _№_, an-action, Property, class, state, trigger-active, cycle-count, nbr-cycles-value, start-at, discarded-time, completed-time, actual-procedure, value, RowValue, state-is, class-is, time-is, unknown-row, truth-row, integer-row, Table, Contains}
+use Rattle.paper_rows.specs.Table.{task, data-item, Component, _№_, an-action, Property, class, state, trigger-active, cycle-count, nbr-cycles-value, start-at, discarded-time, completed-time, actual-procedure, value, RowValue, state-is, class-is, time-is, unknown-row, truth-row, integer-row, Table, Contains}
 use Rattle.paper_engine.specs.Cycle as Cycle
 use Rattle.paper_engine.specs.Operations.{Initialise, initialise-1, initialise-2, initialise-3, initialise-4, initialise-5, initialise-9a, Discard, discard-1, discard-3}
 use Rattle.state.specs.Cell.{plain-unknown, plain-truth, plain-count, plain-time, plain-state}

@@ -7,7 +7,7 @@ use mathlib.Core.List.{List, [], _∷_}
 use lib.Dec.{eqb}
 use lib.ListN.{length, getD}
 use Rattle.paper_expressions.specs.View.{At}
-use Rattle.paper_guideline.specs.Limits.{text-limit, token-limit}
+use Rattle.paper_guideline.specs.Limits.{guideline-limit, token-limit}
 use Rattle.paper_tokens.specs.Lexical.{Token, atom}
 use Rattle.paper_guideline.specs.Tree.{Where, Tree}
 use Rattle.paper_guideline.specs.Laws.TreeLaws.{Ends}
@@ -83,7 +83,7 @@ pub record Given (c : Source) (l : ℕ) (ts : List Token) (g : List TopLevel) : 
   pub structure : Structure ts g
   pub brackets : (q : ℕ) → ¬ TooManyOpen 0 ts q
   pub few : length ts ≤ token-limit
-  pub short : length (c .text) ≤ text-limit
+  pub short : length (c .text) ≤ guideline-limit
   pub room : row-cells ≤ l
 
 pub record Outlines (c : Source) (x y : List ℕ) (r : Outlined) : Type 0 where
@@ -122,7 +122,7 @@ pub record Told (c : Source) (t : Passed) (x : Row) : Type 0 where
   pub row : t .row ≡ true
   pub kind : t .kind ≡ kind-of x
   pub word : t .word ≡ word-of x
-  pub low : t .word ≤ text-limit
+  pub low : t .word ≤ guideline-limit
   pub name : NameAt c (t .name) (t .place) (name-of x)
   pub expression : ExpressionAt c (where-by (kind-of x)) (t .first) (t .start) (expression-of x)
   pub flag : t .flag ≡ flag-of x
@@ -143,7 +143,7 @@ pub record Fair (c : Source) (p : ℕ) (w : List Token) : Type 0 where
   pub stand : Stand c p w
   pub fine : Fine w
   pub few : length (c .kinds) ≤ token-limit
-  pub short : length (c .text) ≤ text-limit
+  pub short : length (c .text) ≤ guideline-limit
 
 -- a turn of a shape, of the shape that the first token tells, and of any
 pub record Passes (s : Shape) (c : Source) (p : ℕ) (t : Passed) : Type 0 where

@@ -7,7 +7,7 @@ use native.Mathlib.Omega.{arith}
 use lib.ListN.{length, getD, set, length-set}
 use lib.Seq.{getD-set-same, getD-set-other}
 use borrow.Author.Tests.{lt-ltb}
-use Rattle.paper_guideline.specs.Limits.{text-limit, token-limit}
+use Rattle.paper_guideline.specs.Limits.{guideline-limit, token-limit}
 use Rattle.paper_guideline.specs.Tree.{Where}
 use Rattle.paper_guideline.specs.Structure.{Name, Outermost}
 use Rattle.leaves.specs.Source.{Source}
@@ -65,7 +65,7 @@ put-eight {x} {y} {z} {n} t p q r s u f g = record {
 pub low-is : (x : ℕ) → x < 4294967296 → low x ≡ x
 low-is x h = rw (lt-ltb x 4294967296 h)
 
-module _ (c : Source) (few : length (c .kinds) ≤ token-limit) (short : length (c .text) ≤ text-limit) where
+module _ (c : Source) (few : length (c .kinds) ≤ token-limit) (short : length (c .text) ≤ guideline-limit) where
   name-cells : (n : Option Name) (j p : ℕ) {a b : ℕ} → NameAt c j p n → a ≡ low j → b ≡ low p → NameAt c a b n
   name-cells none j p h e f = (e ∙ ap low (h .0), f ∙ ap low (h .1))
   name-cells (some n) j p h e f =

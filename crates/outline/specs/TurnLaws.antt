@@ -12,7 +12,7 @@ use lib.ListN.{getD, length}
 use borrow.Author.Tests.{eqb-true, eqb-false, ne-eqb, ltb-true}
 use Rattle.paper_expressions.specs.Laws.Tests.{two, and-l, and-r, every}
 use Rattle.paper_expressions.specs.Bytes.{bytes}
-use Rattle.paper_guideline.specs.Limits.{text-limit, token-limit}
+use Rattle.paper_guideline.specs.Limits.{guideline-limit, token-limit}
 use Rattle.paper_tokens.specs.Tokens
 use Tokens.{terminals, “=”, “plan”, “action”, “enquiry”, “data”, “caption”, “description”, “precondition”, “wait-condition”, “postcondition”, “trigger”, “terminate”, “component”, “source”, “schedule-constraint”, “terminal”, “mandatory”}
 use Rattle.paper_grammar.specs.Laws.Ll.{isIn}
@@ -56,7 +56,7 @@ spelt : {c : Source} {j : ℕ} {n : Token} {w : List Token} → Stand c j (n ∷
 spelt s = let h = stand-here s in record { bytes = h .bytes; within = h .within }
 
 -- a place is within the text
-low-place : {c : Source} {p : ℕ} {t : Token} {w : List Token} (q : ℕ) → Fair c p (t ∷ w) → q ≡ getD (c .places) p 0 → q ≤ text-limit
+low-place : {c : Source} {p : ℕ} {t : Token} {w : List Token} (q : ℕ) → Fair c p (t ∷ w) → q ≡ getD (c .places) p 0 → q ≤ guideline-limit
 low-place q f e = let h = stand-here (f .stand) .within in let l = f .short in omega arith
 
 word-at : {c : Source} {p : ℕ} {t : Token} {w : List Token} {q : ℕ} → Stand c p (t ∷ w) → q ≡ getD (c .places) p 0 → q ≡ t .place

@@ -7,4 +7,5 @@ pub mod View
 pub mod Operators
 pub mod Expressions
 pub mod Evaluation
+pub mod Calls
 pub mod Laws

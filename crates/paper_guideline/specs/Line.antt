@@ -21,7 +21,7 @@ use Rattle.paper_tokens.specs.Lexical.{Token, Tokens, Stuck}
 use Rattle.paper_tokens.specs.Terminals.{Terminals}
 use Rattle.paper_guideline.specs.Tree.{anywhere, Tree}
 use Rattle.paper_guideline.specs.LeftOut.{LeftOut}
-use Rattle.paper_guideline.specs.Limits.{text-limit, token-limit, depth-limit, part-limit, parts, depth, longest-list}
+use Rattle.paper_guideline.specs.Limits.{guideline-limit, token-limit, depth-limit, part-limit, parts, depth, longest-list}
 use Rattle.paper_guideline.specs.Refusals
 use Refusals.{Stage, text-stage, lexical-stage, count-stage, grammar-stage, left-out-stage, limit-stage, type-stage, turn, number, TooManyOpen, TokenBreach}
 
@@ -38,7 +38,7 @@ pub record LineTree (line : List ℕ) (e : Expr) : Type 0 where
 
 pub data LineBreach (line : List ℕ) : Stage → Type 0 where
   line-high-byte : {p b : ℕ} → At line p b → 127 < b → LineBreach line text-stage
-  line-long : text-limit < length line → LineBreach line text-stage
+  line-long : guideline-limit < length line → LineBreach line text-stage
   line-no-rule : {p : ℕ} → Stuck line p → LineBreach line lexical-stage
   line-many-tokens : {ts : List Token} → Tokens line 0 ts → token-limit < length ts → LineBreach line count-stage
   line-many-open : {ts : List Token} {p : ℕ} → Tokens line 0 ts → TooManyOpen 0 ts p → LineBreach line count-stage

@@ -17,11 +17,11 @@ use Rattle.paper_guideline.specs.Parts.{assignments, Component, componen
 
 -- ---- repeated attributes: the words, and those that may stand again
 
-abbrev generic-word : Generic → ℕ
+abbrev pub generic-word : Generic → ℕ
 generic-word (caption x) = “caption”
 generic-word (description x) = “description”
 
-abbrev word-of : Attribute → ℕ
+abbrev pub word-of : Attribute → ℕ
 word-of (generic g) = generic-word g
 word-of (precondition x) = “precondition”
 word-of (wait-condition x) = “wait-condition”
@@ -31,11 +31,11 @@ word-of (trigger n) = “trigger”
 word-of (component n xs) = “component”
 word-of (source n xs) = “source”
 
-abbrev component-word : ComponentAttribute → ℕ
+abbrev pub component-word : ComponentAttribute → ℕ
 component-word (schedule-constraint n) = “schedule-constraint”
 component-word (terminal b) = “terminal”
 
-abbrev source-word : SourceAttribute → ℕ
+abbrev pub source-word : SourceAttribute → ℕ
 source-word (source-generic g) = generic-word g
 source-word (mandatory b) = “mandatory”
 

@@ -22,7 +22,7 @@ use Rattle.paper_guideline.specs.LeftOut.{LeftOut}
 use Rattle.paper_guideline.specs.Structure.{Name, TopLevel, DataItem, Structure, tasks, data-items}
 use Rattle.paper_guideline.specs.Parts.{Role, condition, wording, assigned-to, Typed, expressions, assignments, sources}
 use Rattle.paper_guideline.specs.Limits
-use Limits.{text-limit, token-limit, bracket-limit, task-limit, data-item-limit, part-limit, depth-limit, assignment-limit, source-limit, decimal-limit}
+use Limits.{guideline-limit, token-limit, bracket-limit, task-limit, data-item-limit, part-limit, depth-limit, assignment-limit, source-limit, decimal-limit}
 use Limits.{parts, depth, longest-list}
 use Rattle.paper_guideline.specs.Names.{NameBreach}
 
@@ -116,7 +116,7 @@ pub record Read (text : List ℕ) (g : List TopLevel) : Type 0 where
 pub data Breach (Short : Type 0) (text : List ℕ) : Stage → ℕ → Type 0 where
   -- 1: "a byte over 127", at the byte; "text over 16,384 bytes", at the text's length
   high-byte : {p b : ℕ} → At text p b → 127 < b → Breach Short text text-stage p
-  long : text-limit < length text → Breach Short text text-stage (length text)
+  long : guideline-limit < length text → Breach Short text text-stage (length text)
   -- 2: "no lexical rule of section 2 matches at a place", there
   no-rule : {p : ℕ} → Stuck text p → Breach Short text lexical-stage p
   -- 6: the count of tokens, at the text's length; open brackets, at the bracket

@@ -8,7 +8,7 @@ use mathlib.Core.List.{List}
 use lib.ListN.{getD, set, length}
 use lib.Seq.{getD-set-same, getD-set-other}
 use borrow.Author.Count.{below-more}
-use Rattle.paper_engine.specs.Table.{precondition, wait-condition, Table}
+use Rattle.paper_rows.specs.Table.{precondition, wait-condition, Table}
 use Rattle.paper_engine.specs.Conditions.{StartConditions, InitialiseConditions, TerminationConditions, DiscardConditions, CompleteConditions}
 use Rattle.state.specs.Layout.{Rows}
 use Rattle.waits.specs.Booleans.{Tests}

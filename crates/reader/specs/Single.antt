@@ -6,7 +6,7 @@ use mathlib.Core.List.{List, _∷_}
 use lib.ListN.{length}
 use Rattle.paper_expressions.specs.Expressions.{Expr, Exprs}
 use Rattle.paper_expressions.specs.Laws.Parentheses.{bare, bares}
-use Rattle.paper_guideline.specs.Limits.{text-limit, part-limit}
+use Rattle.paper_guideline.specs.Limits.{guideline-limit, part-limit}
 use Rattle.paper_tokens.specs.Lexical.{Token, atom}
 use Rattle.paper_tokens.specs.Terminals.{Terminal, name}
 use Rattle.paper_guideline.specs.Refusals.{TokenBreach, TooManyOpen}
@@ -21,10 +21,10 @@ use Rattle.steps.specs.Made.{Fair, Done, Onward, Group}
 
 -- the part that the token at p is by itself
 abbrev pub SaysAt : Source → ℕ → Word → Type 0
-SaysAt c p r = (t : Token) (e : Expr) → Here c p t → ¬ TokenBreach t → length (c .text) ≤ text-limit → Leaf t e → Says (c .text) e r
+SaysAt c p r = (t : Token) (e : Expr) → Here c p t → ¬ TokenBreach t → length (c .text) ≤ guideline-limit → Leaf t e → Says (c .text) e r
 
 abbrev pub SaysHeadAt : Source → ℕ → Word → Type 0
-SaysHeadAt c p r = (t : Token) → Here c p t → ¬ TokenBreach t → length (c .text) ≤ text-limit → t .rule ≡ atom → SaysFunctor (c .text) (name t) r
+SaysHeadAt c p r = (t : Token) → Here c p t → ¬ TokenBreach t → length (c .text) ≤ guideline-limit → t .rule ≡ atom → SaysFunctor (c .text) (name t) r
 
 pub record ReadsSingle (c : Source) (x y : List ℕ) (p u : ℕ) (m : Built) : Type 0 where
   pub onward : Onward p m

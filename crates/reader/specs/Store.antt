@@ -13,7 +13,7 @@ use borrow.Author.Tests.{ltb-true, ltb-false}
 use Rattle.paper_expressions.specs.Laws.Tests.{two}
 use Rattle.paper_expressions.specs.Expressions.{Expr, Exprs, Atom, IntegerLit, FloatLit, StringLit, Paren, Listing, Apply, ε, _▸_}
 use Rattle.paper_expressions.specs.Laws.Parentheses.{bare, bares}
-use Rattle.paper_guideline.specs.Limits.{text-limit, part-limit}
+use Rattle.paper_guideline.specs.Limits.{guideline-limit, part-limit}
 use Rattle.paper_tokens.specs.Lexical.{Token}
 use Rattle.paper_guideline.specs.Tree.{Where, Tree}
 use Rattle.paper_guideline.specs.Laws.TreeLaws.{Ends}
@@ -43,7 +43,7 @@ pub record Room (t : Table) (u n : ℕ) : Type 0 where
 pub record Reads (a : Where) (c : Source) (t t′ : Table) (p u : ℕ) (m : Built) : Type 0 where
   pub refused : m .ok ≡ false → t′ ≡ t
   pub beside : m .ok ≡ true → Beside u (m .used) t t′
-  pub ok : (b : ℕ) (w r : List Token) (e : Expr) → Stand c p w → Tree a 1 w r e → Ends a r → ((q : ℕ) → ¬ TooManyOpen b w q) → Clean c r → length (c .text) ≤ text-limit → Room t u (size e)
+  pub ok : (b : ℕ) (w r : List Token) (e : Expr) → Stand c p w → Tree a 1 w r e → Ends a r → ((q : ℕ) → ¬ TooManyOpen b w q) → Clean c r → length (c .text) ≤ guideline-limit → Room t u (size e)
       → (m .ok ≡ true) × Stand c (m .next) r × (m .used ≡ u + size e) × Holds t′ u (bare e)
 
 -- ---- laws
@@ -79,7 +79,7 @@ kept-outside l k u n i v h g j (inr a) = getD-set-other l (u + i) j v 0 (λ z. o
 
 -- the rows are read with every bracket that is allowed still to come
 module _ {a : Where} {c : Source} {x y : List ℕ} {p : ℕ} {m : Built} (reads : ReadsExpression a c x y p 0 24 m) (lg : Long x) {b u : ℕ} {w r : List Token} {e : Expr} {t : Table}
-    (st : Stand c p w) (tree : Tree a 1 w r e) (end : Ends a r) (br : (q : ℕ) → ¬ TooManyOpen b w q) (cl : Clean c r) (sh : length (c .text) ≤ text-limit) (room : Room t u (size e)) where
+    (st : Stand c p w) (tree : Tree a 1 w r e) (end : Ends a r) (br : (q : ℕ) → ¬ TooManyOpen b w q) (cl : Clean c r) (sh : length (c .text) ≤ guideline-limit) (room : Room t u (size e)) where
   pub rows-read : Done c x y b 0 r e m
   rows-read =
       let z = bare-size e in

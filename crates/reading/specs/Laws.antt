@@ -13,7 +13,7 @@ use borrow.Author.Tests.{leb-true, leb-false, ltb-true, ltb-false, lt-ltb, le-lt
 use lib.Dec.{leb}
 use Rattle.paper_expressions.specs.Laws.Tests.{two, contra}
 use Rattle.paper_expressions.specs.View as View
-use Rattle.paper_guideline.specs.Limits.{text-limit, part-limit, token-limit}
+use Rattle.paper_guideline.specs.Limits.{guideline-limit, part-limit, token-limit}
 use Rattle.paper_tokens.specs.Lexical.{Token, Tokens}
 use Rattle.paper_tokens.specs.Laws.LexicalLaws as LexicalLaws
 use Rattle.paper_guideline.specs.Structure.{TopLevel, Structure, Outermost}
@@ -123,13 +123,13 @@ long-enough n m h = at-most m n (λ k. h (lt-ltb n m k))
 record Roomy (r c b : ℕ) : Type 0 where
   pub rows : row-cells ≤ r
   pub cells : part-limit * 4 ≤ c
-  pub bytes : text-limit ≤ b
+  pub bytes : guideline-limit ≤ b
 
 roomy : (r c b : ℕ) → ¬ (is-short r c b ≡ true) → Roomy r c b
 roomy r c b h =
-    let a = neither (ltb r row-cells) (ltb c (part-limit * 4) || ltb b text-limit) h in
-    let d = neither (ltb c (part-limit * 4)) (ltb b text-limit) (a .1) in
-    record { rows = long-enough r row-cells (a .0); cells = long-enough c (part-limit * 4) (d .0); bytes = long-enough b text-limit (d .1) }
+    let a = neither (ltb r row-cells) (ltb c (part-limit * 4) || ltb b guideline-limit) h in
+    let d = neither (ltb c (part-limit * 4)) (ltb b guideline-limit) (a .1) in
+    record { rows = long-enough r row-cells (a .0); cells = long-enough c (part-limit * 4) (d .0); bytes = long-enough b guideline-limit (d .1) }
 
 module _ {text kinds places lengths o o′ x : List ℕ} {t : Table} {n : ℕ} {short : Bool} where
   -- what is judged fine is ready to be written
@@ -139,7 +139,7 @@ module _ {text kinds places lengths o o′ x : List ℕ} {t : Table} {n : ℕ} {
       let r = roomy (length x) (length (t .cells)) (length (t .bytes))
       (λ k. j .passed limit-stage (length text) (omega arith) (Refusals.short-table (e ∙ k))) in
       let rr = r .rows in
-      let sh : length text ≤ text-limit = at-most (length text) text-limit (λ k. j .passed text-stage (length text) (omega arith) (long k)) in
+      let sh : length text ≤ guideline-limit = at-most (length text) guideline-limit (λ k. j .passed text-stage (length text) (omega arith) (long k)) in
       let f = few-rows (j .structure) in
       let ft : length (j .tokens) ≤ token-limit = at-most (length (j .tokens)) token-limit (λ k. j .passed Refusals.count-stage (length text) (omega arith) (Refusals.many-tokens (j .its) k)) in
       let c = j .outline .count in

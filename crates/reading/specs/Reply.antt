@@ -5,7 +5,7 @@ use mathlib.Core.Bool.{Bool, true, _||_}
 use mathlib.Core.List.{List}
 use lib.Dec.{ltb}
 use lib.ListN.{length, getD, replicate}
-use Rattle.paper_guideline.specs.Limits.{text-limit, part-limit}
+use Rattle.paper_guideline.specs.Limits.{guideline-limit, part-limit}
 use Rattle.paper_tokens.specs.Lexical.{Token, Tokens}
 use Rattle.paper_guideline.specs.Structure.{TopLevel, Structure}
 use Rattle.paper_guideline.specs.Refusals as Refusals
@@ -23,7 +23,7 @@ use Rattle.reading.specs.declared.Reading.the-variants.{Reads, Refused}
 
 -- a lent table, of so many cells, is shorter than its least length
 abbrev pub is-short : ℕ → ℕ → ℕ → Bool
-is-short rows cells bytes = ltb rows row-cells || (ltb cells (part-limit * 4) || ltb bytes text-limit)
+is-short rows cells bytes = ltb rows row-cells || (ltb cells (part-limit * 4) || ltb bytes guideline-limit)
 
 abbrev pub Short : List ℕ → Table → Type 0
 Short x t = is-short (length x) (length (t .cells)) (length (t .bytes)) ≡ true
@@ -81,7 +81,7 @@ pub record Ready (text kinds places lengths : List ℕ) (n : ℕ) (o x : List �
   pub sound : Sound (source text kinds places lengths)
   pub few : parts-in (flatten g) ≤ part-limit
   pub wide : Wide t
-  pub bytes : text-limit ≤ length (t .bytes)
+  pub bytes : guideline-limit ≤ length (t .bytes)
   pub blank : Empty x t x t
 
 pub record Fills (text kinds places lengths : List ℕ) (n : ℕ) (o x : List ℕ) (t : Table) (x′ : List ℕ) (t′ : Table) : Type 0 where

@@ -7,7 +7,7 @@ use mathlib.Core.Bool.{Bool}
 use mathlib.Core.Logic.{_↔_}
 use mathlib.Core.List.{List}
 use lib.ListN.{getD}
-use Rattle.paper_engine.specs.Table.{precondition, wait-condition, Component, Property, RowValue, Table}
+use Rattle.paper_rows.specs.Table.{precondition, wait-condition, Component, Property, RowValue, Table}
 use Rattle.paper_engine.specs.Conditions.{StartConditions, InitialiseConditions, TerminationConditions, DiscardConditions, CompleteConditions}
 use Rattle.state.specs.Layout.{Rows}
 use Rattle.waits.specs.Booleans.{Tests}

@@ -11,7 +11,7 @@ use lib.ListN.{length, getD}
 use borrow.Author.Tests.{leb-true, leb-false, le-leb, lt-leb, ltb-true, ltb-false}
 use Rattle.paper_expressions.specs.Laws.Tests.{two}
 use Rattle.paper_expressions.specs.View as View
-use Rattle.paper_guideline.specs.Limits.{text-limit, token-limit, task-limit, data-item-limit, part-limit, assignment-limit, source-limit}
+use Rattle.paper_guideline.specs.Limits.{guideline-limit, token-limit, task-limit, data-item-limit, part-limit, assignment-limit, source-limit}
 use Rattle.paper_tokens.specs.Lexical.{Token, Tokens}
 use Rattle.paper_tokens.specs.Terminals.{Terminals}
 use Rattle.paper_tokens.specs.Laws.TerminalLaws.{terminals-are, terminalF}
@@ -128,7 +128,7 @@ module _ {text kinds places lengths : List ℕ} (l : Lexed text kinds places len
     structure = s;
     brackets = λ q h. l .passed count-stage q (omega arith) (many-open (l .its) h);
     few = few-tokens;
-    short = at-most (length text) text-limit (λ h. l .passed text-stage (length text) (omega arith) (long h));
+    short = at-most (length text) guideline-limit (λ h. l .passed text-stage (length text) (omega arith) (long h));
     room = room;
   }
 

@@ -8,8 +8,8 @@ use mathlib.Core.Option.{some}
 use lib.IntN.{ℤ, pos}
 use Rattle.paper_guideline.specs.Structure.{TopLevel}
 use Rattle.paper_expressions.specs.Expressions.{Expr}
-use Rattle.paper_engine.specs.Table.{task, _№_, cycle-count, procedure, RowValue, integer-row, expression-is, Table, Contains}
-use Rattle.paper_engine.specs.Load.{Adds}
+use Rattle.paper_rows.specs.Table.{task, _№_, cycle-count, procedure, RowValue, integer-row, expression-is, Table, Contains}
+use Rattle.paper_rows.specs.Load.{Adds}
 use Rattle.paper_engine.specs.Laws.Kept.{Kept}
 use Rattle.paper_engine.specs.Laws.CountLaws.{Counted}
 use Rattle.starting.specs.StartRows.{Countable}

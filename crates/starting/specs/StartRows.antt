@@ -15,7 +15,7 @@ use Rattle.paper_expressions.specs.Laws.Search.{no-clash}
 use Rattle.paper_expressions.specs.Values.{in-progress}
 use Rattle.paper_expressions.specs.Expressions.{Expr}
 use Rattle.paper_expressions.specs.View.{At}
-use Rattle.paper_engine.specs.Table.{task, data-item, source, Component, _№_, an-enquiry, an-action, Property, class, state, confirmed, cycle-count, start-at, in-progress-time, procedure, actual-procedure, sources, data-item-of, requested, RowValue, state-is, class-is, time-is, expression-is, component-is, components-are, unknown-row, truth-row, integer-row, Table, Contains}
+use Rattle.paper_rows.specs.Table.{task, data-item, source, Component, _№_, an-enquiry, an-action, Property, class, state, confirmed, cycle-count, start-at, in-progress-time, procedure, actual-procedure, sources, data-item-of, requested, RowValue, state-is, class-is, time-is, expression-is, component-is, components-are, unknown-row, truth-row, integer-row, Table, Contains}
 use Rattle.paper_engine.specs.Cycle as Cycle
 use Rattle.paper_engine.specs.Operations.{InitialiseSource, initialise-source, Start, start-1, start-2, start-3, start-4, start-8, start-9, start-12}
 use Rattle.state.specs.Cell.{Cell, Plain, plain-unknown, plain-truth, plain-count, plain-time, plain-state, one-row, row-is, tag}

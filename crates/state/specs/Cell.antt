@@ -11,7 +11,7 @@ use borrow.Author.Tests.{eq-eqb, eqb-true, le-leb, leb-true}
 use Prim.Native.Nat.{_≤_}
 use Rattle.paper_expressions.specs.Laws.Search.{no-clash}
 use Rattle.paper_expressions.specs.Values.{Scalar, unknown, truth, integer, real, text, Value, one, sequence, TaskState, dormant, in-progress, discarded, completed}
-use Rattle.paper_engine.specs.Table.{RowValue, value-is, state-is, class-is, type-is, time-is, expression-is, assertion-is, component-is, components-are, unknown-row, truth-row, integer-row}
+use Rattle.paper_rows.specs.Table.{RowValue, value-is, state-is, class-is, type-is, time-is, expression-is, assertion-is, component-is, components-are, unknown-row, truth-row, integer-row}
 
 -- ---- the two numbers of a row
 

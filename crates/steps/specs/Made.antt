@@ -8,7 +8,7 @@ use lib.ListN.{length, getD}
 use Rattle.paper_expressions.specs.Operators.{Op, negate}
 use Rattle.paper_expressions.specs.Expressions.{Expr, Exprs, Listing, Apply, ε, _▸_}
 use Rattle.paper_expressions.specs.Laws.Parentheses.{bare}
-use Rattle.paper_guideline.specs.Limits.{text-limit, bracket-limit, part-limit}
+use Rattle.paper_guideline.specs.Limits.{guideline-limit, bracket-limit, part-limit}
 use Rattle.paper_tokens.specs.Lexical.{Token}
 use Rattle.paper_tokens.specs.Terminals.{Terminal}
 use Rattle.paper_guideline.specs.Tree.{Where, Tree, Trees}
@@ -29,7 +29,7 @@ pub record Fair (c : Source) (b d p : ℕ) (w r : List Token) : Type 0 where
   pub brackets : (q : ℕ) → ¬ TooManyOpen b w q
   pub deep : bracket-limit ≤ b + d
   pub clean : Clean c r
-  pub short : length (c .text) ≤ text-limit
+  pub short : length (c .text) ≤ guideline-limit
 
 -- the expression e is read: behind it stand the tokens r, and the rows of y from u on hold it
 pub record Done (c : Source) (x y : List ℕ) (b u : ℕ) (r : List Token) (e : Expr) (m : Built) : Type 0 where

@@ -5,7 +5,7 @@ use mathlib.Core.Bool.{true}
 use mathlib.Core.List.{List}
 use native.Mathlib.Omega.{arith}
 use lib.ListN.{length}
-use Rattle.paper_guideline.specs.Limits.{text-limit, part-limit}
+use Rattle.paper_guideline.specs.Limits.{guideline-limit, part-limit}
 use Rattle.paper_tokens.specs.Lexical.{Token, Tokens}
 use Rattle.paper_guideline.specs.Structure.{TopLevel}
 use Rattle.parts.specs.Part.{Table, table}
@@ -29,7 +29,7 @@ pub record Fresh (x : List ℕ) (t : Table) (b : List ℕ) : Type 0 where
   pub parts : Blank 0 (t .cells)
   pub bytes : Blank 0 b
   pub wide : Wide t
-  pub room : text-limit ≤ length b
+  pub room : guideline-limit ≤ length b
 
 -- the columns c hold the tokens of a guideline g that is within the limits
 pub record Within (c : Source) (l : ℕ) (ts : List Token) (g : List TopLevel) : Type 0 where

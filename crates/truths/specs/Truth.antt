@@ -22,10 +22,11 @@ use Rattle.paper_expressions.specs.Laws.Parentheses.{bare, type-to-bare}
 use Rattle.paper_guideline.specs.Structure.{TopLevel}
 use Rattle.paper_guideline.specs.Refusals.{declared-items}
 use Rattle.paper_guideline.specs.Limits.{depth-limit}
-use Rattle.paper_engine.specs.Table.{task, _№_, Property, RowValue, expression-is, Contains}
-use Rattle.paper_engine.specs.Table as Engine
+use Rattle.paper_rows.specs.Table.{task, _№_, Property, RowValue, expression-is, Contains}
+use Rattle.paper_rows.specs.Table as Engine
 use Rattle.paper_engine.specs.Conditions.{Evaluate, IsTrue}
-use Rattle.paper_engine.specs.Laws.Kept.{Lawful, Kept, viewF, view-of, view-sound, same-items, one-view}
+use Rattle.paper_rows.specs.Laws.Lawful.{Lawful}
+use Rattle.paper_engine.specs.Laws.Kept.{Kept, viewF, view-of, view-sound, same-items, one-view}
 use Rattle.parts.specs.Part.{Table, Ends, Within}
 use Rattle.values.specs.declared.scalar.Scalar.{Scalar}
 use Rattle.values.specs.declared.scalar.Scalar.the-variants.{Unknown, Truth, Int, Real, Text}

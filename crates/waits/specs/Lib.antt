@@ -3,4 +3,3 @@ pub mod Twins
 pub mod Antecedents
 pub mod Worked
 pub mod Shows
-pub mod Kept

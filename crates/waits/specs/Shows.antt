@@ -12,7 +12,7 @@ use borrow.Author.Tests.{eq-eqb, eqb-true, le-leb, leb-true}
 use Rattle.paper_expressions.specs.Laws.Search.{no-clash}
 use Rattle.paper_expressions.specs.Values.{in-progress, discarded, completed, TaskState}
 use Rattle.paper_expressions.specs.View.{At}
-use Rattle.paper_engine.specs.Table.{task, Component, _№_, state, antecedent-tasks, wait-condition, trigger-active, start-at, RowValue, state-is, time-is, component-is, components-are, truth-row, Table, Contains}
+use Rattle.paper_rows.specs.Table.{task, Component, _№_, state, antecedent-tasks, wait-condition, trigger-active, start-at, RowValue, state-is, time-is, component-is, components-are, truth-row, Table, Contains}
 use Rattle.paper_engine.specs.Conditions.{StartAt, ScheduleConditions}
 use Rattle.state.specs.Cell.{state-code, plain-state, plain-truth, time-there, time-number}
 use Rattle.state.specs.Layout.{Rows, rowIs, row-test, state-column, trigger-column, start-column}

@@ -8,7 +8,7 @@ use mathlib.Core.Option.{Option, none, some}
 use lib.ListN.{getD}
 use Rattle.paper_expressions.specs.Expressions.{Expr}
 use Rattle.paper_expressions.specs.View.{At}
-use Rattle.paper_engine.specs.Table.{task, data-item, source, Component, _№_, Class, a-plan, an-action, an-enquiry, Property, class, antecedent-tasks, trigger, parent-plan, confirmatory, optional, terminal, sources, data-item-of, mandatory, RowValue, class-is, component-is, components-are, expression-is, truth-row, text-row, Table, Contains, TaskId}
+use Rattle.paper_rows.specs.Table.{task, data-item, source, Component, _№_, Class, a-plan, an-action, an-enquiry, Property, class, antecedent-tasks, trigger, parent-plan, confirmatory, optional, terminal, sources, data-item-of, mandatory, RowValue, class-is, component-is, components-are, expression-is, truth-row, text-row, Table, Contains, TaskId}
 use Rattle.paper_engine.specs.Conditions.{IsTrue}
 use Rattle.waits.specs.Twins.{marked, waiting, parentAt, triggerF, terminalF, orderAt, confirmatoryF, classF, firstAt, countAt, itemAt, mandatoryF}
 use Rattle.waits.specs.Booleans.{Tests}

@@ -14,57 +14,15 @@ use Structure.{Name, Outermost, Placed, Assignment, Generic, caption, descriptio
 use Structure.{Attribute, generic, precondition, wait-condition, terminate, postcondition, trigger, component, source, Task, TopLevel, task, data-item, tasks}
 use Rattle.paper_guideline.specs.Parts.{Role, condition, wording, assigned-to, Typed, expressions}
 use Rattle.paper_guideline.specs.Refusals.{Fitting, fits-condition, fits-assigned, declared-items}
-use Rattle.paper_engine.specs.Table as Table
-use Rattle.paper_engine.specs.Table.{_№_, Assigns, expression-is, assertion-is}
-use Rattle.paper_engine.specs.Load as Load
+use Rattle.paper_rows.specs.Table as Table
+use Rattle.paper_rows.specs.Table.{_№_, Assigns, expression-is, assertion-is}
+use Rattle.paper_rows.specs.Load as Load
 use Load.{InstantiateTask, SetTaskAttribute, task-4, assigns, Adds, attribute-5-precondition, attribute-5-wait-condition, attribute-5-terminate, attribute-5-postcondition}
-use Rattle.paper_engine.specs.Laws.Kept.{Lawful, defined, map-at}
+use Rattle.paper_rows.specs.Laws.Lawful.{Lawful, defined}
+use Rattle.paper_rows.specs.Laws.Gathered.{typed, of-generic, of-source, of-attribute, expressions-from}
+use Rattle.paper_rows.specs.Laws.Lists.{at-left, at-right, each, each-at, map-at}
 
--- ---- elements of joined lists
-
-at-left : {A : Type 0} {l : List A} {i : ℕ} {x : A} (m : List A) → At l i x → At (l ++ m) i x
-at-left m at-first = at-first
-at-left m (at-later h) = at-later (at-left m h)
-
-at-right : {A : Type 0} (l : List A) {m : List A} {i : ℕ} {x : A} → At m i x → (j : ℕ) × At (l ++ m) j x
-at-right [] h = (_, h)
-at-right (y ∷ l) h = let k = at-right l h in (suc (k .0), at-later (k .1))
-
--- ---- the parts of a guideline, as in Parts
-
-abbrev pub each : {A B : Type 0} → (A → List B) → List A → List B
-each f [] = []
-each f (a ∷ l) = f a ++ each f l
-
-pub each-at : {A B : Type 0} (f : A → List B) {l : List A} {i j : ℕ} {a : A} {b : B} → At l i a → At (f a) j b → (m : ℕ) × At (each f l) m b
-each-at f (at-first {l}) k = (_, at-left (each f l) k)
-each-at f (at-later {y} h) k = let q = each-at f h k in at-right (f y) (q .1)
-
-abbrev typed : ℕ → Role → Outermost → List Typed
-typed t r x = record { expression = x; role = r; attached = t } ∷ []
-
-abbrev of-generic : ℕ → Generic → List Typed
-of-generic t (caption x) = typed t wording x
-of-generic t (description x) = typed t wording x
-
-abbrev of-source : ℕ → SourceAttribute → List Typed
-of-source t (source-generic g) = of-generic t g
-of-source t (mandatory b) = []
-
-abbrev of-attribute : ℕ → Attribute → List Typed
-of-attribute t (generic g) = of-generic t g
-of-attribute t (precondition x) = typed t condition x
-of-attribute t (wait-condition x) = typed t condition x
-of-attribute t (terminate x) = typed t condition x
-of-attribute t (postcondition xs) = each (λ (a : Assignment). typed t (assigned-to (a .target)) (a .value)) xs
-of-attribute t (trigger n) = []
-of-attribute t (component n xs) = []
-of-attribute t (source n xs) = each (λ (a : Placed SourceAttribute). of-source t (a .what)) xs
-
-abbrev expressions-from : ℕ → List TopLevel → List Typed
-expressions-from t [] = []
-expressions-from t (task k ∷ g) = each (λ (a : Placed Attribute). of-attribute t (a .what)) (k .attributes) ++ expressions-from (suc t) g
-expressions-from t (data-item d ∷ g) = each (λ (a : Placed Generic). of-generic 0 (a .what)) (d .attributes) ++ expressions-from t g
+-- ---- where an expression stands among all
 
 -- an expression of the c-th task from n is attached to the task n + c
 of-task : (n : ℕ) (g : List TopLevel) {c j i : ℕ} {k : Task} {a : Placed Attribute} {x : Typed}
@@ -75,10 +33,10 @@ of-task n (task k ∷ g) {i} {a} {x} at-first q r =
     (s .0, at-left (expressions-from (suc n) g) (s .1))
 of-task n (task k ∷ g) {i} {a} {x} (at-later {i = c} h) q r =
     let s = of-task (suc n) g h q (subst (λ (z : ℕ). At (of-attribute z (a .what)) i x) (let z : n + suc c ≡ suc n + c = omega arith in z) r) in
-    at-right (each (λ (b : Placed Attribute). of-attribute n (b .what)) (k .attributes)) (s .1)
+    (_, at-right (each (λ (b : Placed Attribute). of-attribute n (b .what)) (k .attributes)) (s .1))
 of-task n (data-item d ∷ g) h q r =
     let s = of-task n g h q r in
-    at-right (each (λ (b : Placed Generic). of-generic 0 (b .what)) (d .attributes)) (s .1)
+    (_, at-right (each (λ (b : Placed Generic). of-generic 0 (b .what)) (d .attributes)) (s .1))
 
 pub attached : {g : List TopLevel} {c i : ℕ} {a : Attribute} {x : Typed} → SetTaskAttribute g c a → At (of-attribute c a) i x → (m : ℕ) × At (expressions g) m x
 attached {g} {c} {i} {a} {x} (task-4 h q) r = of-task 0 g (defined h) q (subst (λ (z : ℕ). At (of-attribute z a) i x) (let z : c ≡ 0 + c = omega arith in z) r)
@@ -126,3 +84,11 @@ module _ {g : List TopLevel} (lawful : Lawful g) where
   assigned-typed {T} (attribute-5-postcondition {l} h) q =
       let k = map-at assigns l q in
       subst (Assigned g T) (k .2) (assignment-typed h (k .1))
+
+-- where an assigned expression stands among those of the guideline
+pub assigned-at : {g : List TopLevel} {T i : ℕ} {l : List Assigns} {a : Assigns} → Adds g (Table.task № T) Table.postcondition (assertion-is l) → At l i a
+    → (x : Typed) × ((m : ℕ) × At (expressions g) m x) × ((x .attached ≡ T) × (x .expression .tree ≡ a .assigned))
+assigned-at {g} {T} {a} (attribute-5-postcondition {l} h) q =
+    let k = map-at assigns l q in
+    let r = each-at (λ (b : Assignment). typed T (assigned-to (b .target)) (b .value)) (k .1) at-first in
+    (record { expression = k .0 .value; role = assigned-to (k .0 .target); attached = T }, attached h (r .1), (refl, ap (λ (x : Assigns). x .assigned) (k .2)))

@@ -9,7 +9,7 @@ use mathlib.Core.List.{List}
 use lib.IntN.{ℤ, pos, _+ℤ_}
 use Rattle.paper_expressions.specs.Laws.Search.{no-clash}
 use Rattle.paper_expressions.specs.Values.{Value}
-use Rattle.paper_engine.specs.Table.{Assigns, Component, _№_, task, data-item, Property, state, value, requested, cycle-count, RowValue, value-is, truth-row, integer-row, Table, Contains}
+use Rattle.paper_rows.specs.Table.{Assigns, Component, _№_, task, data-item, Property, state, value, requested, cycle-count, RowValue, value-is, truth-row, integer-row, Table, Contains}
 use Rattle.paper_engine.specs.Operations
 use Operations.{Clause, §8·5·1-1, §8·5·1-2, §8·5·1-3, §8·5·1-4, Review, review-1, review-2, review-3, review-4, review-5}
 use Operations.{Initialise, initialise-1, initialise-2, initialise-3, initialise-4, initialise-5, initialise-9a, InitialiseSource, initialise-source}
@@ -53,7 +53,7 @@ pub data Place (T : ℕ) : Component → Property → RowValue → Type 0 where
   of-value : {d : ℕ} {w : Value} → Place T (data-item № d) value (value-is w)
 
 assignment-place : {t : Table} {T : ℕ} {l : List Assigns} {c : Component} {p : Property} {r : RowValue} → EnactAssertion t T l c p r → Place T c p r
-assignment-place (assertion-2 h (assertion-1 v d e)) = of-value
+assignment-place (assertion-2 h (assertion-1 v d e s)) = of-value
 
 source-place : {t : Table} {T : ℕ} {S c : Component} {p : Property} {r : RowValue} → InitialiseSource t S c p r → Place T c p r
 source-place (initialise-source h n) = of-request
@@ -101,7 +101,7 @@ pub data Valued : Component → Property → Type 0 where
   valued : {d : ℕ} → Valued (data-item № d) value
 
 assertion-valued : {t : Table} {T : ℕ} {l : List Assigns} {c : Component} {p : Property} {r : RowValue} → EnactAssertion t T l c p r → Valued c p
-assertion-valued (assertion-2 h (assertion-1 v d e)) = valued
+assertion-valued (assertion-2 h (assertion-1 v d e s)) = valued
 
 pub not-valued : {T : ℕ} {p : Property} → ¬ Valued (task № T) p
 not-valued h = elim h [ ]

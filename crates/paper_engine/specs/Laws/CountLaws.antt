@@ -9,16 +9,17 @@ use lib.IntN.{ℤ, pos, _+ℤ_}
 use Rattle.paper_expressions.specs.Laws.Search.{no-clash}
 use Rattle.paper_expressions.specs.Values.{dormant, in-progress}
 use Rattle.paper_guideline.specs.Structure.{TopLevel}
-use Rattle.paper_engine.specs.Table.{Assigns, task, Component, _№_, Property, state, cycle-count, RowValue, state-is, integer-row, Table, Contains}
-use Rattle.paper_engine.specs.Load.{Adds, Initial}
+use Rattle.paper_rows.specs.Table.{Assigns, task, Component, _№_, Property, state, cycle-count, RowValue, state-is, integer-row, Table, Contains}
+use Rattle.paper_rows.specs.Load.{Adds, Initial}
 use Rattle.paper_engine.specs.Conditions
 use Conditions.{StartCase, start-2a, start-2b, start-2c, StartConditions, InitialiseConditions}
 use Rattle.paper_engine.specs.Operations
 use Operations.{Review, review-1, review-2, Initialise, initialise-1, initialise-2, Start, start-1, start-4, start-9, Discard, Complete, complete-3, complete-4, EnactAssertion, assertion-2, Asks, asks-1, asks-2, asks-3, asks-4, Changes, asked-by}
 use Rattle.paper_engine.specs.Cycle
-use Cycle.{OnlyRow, Collision, Enacted, not-named, enact-c, enact-d, EnactChanges, Ending, State, Runs, stop-quiet, stop-bounded, stop-exception, repeat}
+use Cycle.{OnlyRow, Collision, Enacted, not-named, enact-c, enact-d, EnactChanges, Report, State, Runs, stop-quiet, stop-bounded, stop-exception, repeat}
 use Rattle.paper_engine.specs.Laws.CollisionLaws.{Valued, not-valued, changes-same}
-use Rattle.paper_engine.specs.Laws.Kept.{Lawful, Kept}
+use Rattle.paper_rows.specs.Laws.Lawful.{Lawful}
+use Rattle.paper_engine.specs.Laws.Kept.{Kept}
 use Rattle.paper_engine.specs.Laws.KeptLaws.{cycle-kept}
 use Rattle.paper_engine.specs.Laws.StateLaws.{asked-own, asked-id, row-becomes, initialised}
 
@@ -122,7 +123,7 @@ module _ {g : List TopLevel} {t t′ : Table} {now : ℕ} {f f′ : Bool} (lawfu
           only-values (inl z) = q .differ z
           only-values (inr v) = not-valued v
 
-pub run-counted : {g : List TopLevel} {now n k m : ℕ} {s s′ : State} {e : Ending} → Lawful g → Kept g (s .table) → Counted (s .table) → Runs now n k s s′ e m → Counted (s′ .table)
+pub run-counted : {g : List TopLevel} {now n k : ℕ} {s s′ : State} {r : Report} → Lawful g → Kept g (s .table) → Counted (s .table) → Runs now n k s s′ r → Counted (s′ .table)
 run-counted lawful kept c (stop-quiet h) = c
 run-counted lawful kept c (stop-bounded h p) = c
 run-counted lawful kept c (stop-exception h p y) = cycle-counted lawful kept c y

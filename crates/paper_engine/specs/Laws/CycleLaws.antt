@@ -1,29 +1,14 @@
--- Laws: a structure has one initial table; enacting gives one table and one flag; a run has one reply and one state; runs compose.
+-- Laws: enacting gives one table and one flag; a run has one report and one state, enacts no more than its bound, and runs compose: the counts add up.
 use Prim.Native.Nat.{ℕ, zero, suc, _+_, _≤_}
 use native.Mathlib.Omega.{arith}
 use mathlib.Core.Path.{_≡_, refl, sym, ap, subst, _∙_, fun-ext}
-use mathlib.Core.Logic.{_↔_}
 use mathlib.Core.Bool.{Bool, true, false}
 use mathlib.Core.Option.{Option, none, some}
-use mathlib.Core.List.{List}
 use Rattle.paper_expressions.specs.Laws.Search.{no-clash}
-use Rattle.paper_guideline.specs.Structure.{TopLevel}
-use Rattle.paper_engine.specs.Table.{Component, Property, RowValue, unknown-row, Table}
-use Rattle.paper_engine.specs.Load.{Initial}
+use Rattle.paper_rows.specs.Table.{Component, Property, RowValue, unknown-row, Table}
 use Rattle.paper_engine.specs.Operations.{Changes}
 use Rattle.paper_engine.specs.Cycle
-use Cycle.{Rows, OnlyRow, Collision, Enacted, not-named, enact-c, enact-d, Flagged, collided, as-it-was, EnactChanges, Ending, quiet, bounded, exception, SomeRow, State, Runs, stop-quiet, stop-bounded, stop-exception, repeat}
-
--- ---- two tables with the same rows are the same
-
-pub same-option : {A : Type 0} (a b : Option A) → ((r : A) → a ≡ some r ↔ b ≡ some r) → a ≡ b
-same-option none none f = refl
-same-option none (some y) f = f y .1 refl
-same-option (some x) b f = sym (f x .0 refl)
-
-pub one-initial : {g : List TopLevel} {t u : Table} → Initial g t → Initial g u → t ≡ u
-one-initial {t} {u} h k =
-    fun-ext (λ c. fun-ext (λ p. same-option (t c p) (u c p) (λ r. (λ e. k .rows c p r .1 (h .rows c p r .0 e), λ e. h .rows c p r .1 (k .rows c p r .0 e)))))
+use Cycle.{Rows, OnlyRow, Collision, Enacted, not-named, enact-c, enact-d, Cause, Flagged, raised, as-it-was, EnactChanges, Ending, quiet, bounded, exception, Report, ends, SomeRow, State, Runs, stop-quiet, stop-bounded, stop-exception, repeat}
 
 -- ---- 8.4: one table, one flag, whatever the rows asked are
 
@@ -42,9 +27,9 @@ enacted-one (enact-d h) (enact-c k) = absurd (never-both k h)
 enacted-one (enact-d h) (enact-d k) = refl
 
 pub flagged-one : {changes : Rows} {o a b : Bool} → Flagged changes o a → Flagged changes o b → a ≡ b
-flagged-one (collided h) (collided k) = refl
-flagged-one (collided {c} {p} h) (as-it-was n) = absurd (n c p h)
-flagged-one (as-it-was n) (collided {c} {p} h) = absurd (n c p h)
+flagged-one (raised h) (raised k) = refl
+flagged-one (raised h) (as-it-was n) = absurd (n h)
+flagged-one (as-it-was n) (raised h) = absurd (n h)
 flagged-one (as-it-was n) (as-it-was m) = refl
 
 pub one-table : {changes : Rows} {t t′ t″ : Table} {f f′ f″ : Bool} → EnactChanges changes t f t′ f′ → EnactChanges changes t f t″ f″ → t′ ≡ t″
@@ -53,12 +38,11 @@ one-table h k = fun-ext (λ c. fun-ext (λ p. enacted-one (h .rows c p) (k .rows
 pub one-flag : {changes : Rows} {t t′ t″ : Table} {f f′ f″ : Bool} → EnactChanges changes t f t′ f′ → EnactChanges changes t f t″ f″ → f′ ≡ f″
 one-flag h k = flagged-one (h .flag) (k .flag)
 
--- ---- 8.3.2: one state, one ending, one count
+-- ---- 8.3.2: one state, one report
 
-pub record SameRun (s : State) (e : Ending) (m : ℕ) (s′ : State) (e′ : Ending) (m′ : ℕ) : Type 0 where
+pub record SameRun (s : State) (r : Report) (s′ : State) (r′ : Report) : Type 0 where
   pub states : s ≡ s′
-  pub endings : e ≡ e′
-  pub counts : m ≡ m′
+  pub reports : r ≡ r′
 
 not-true : _≡_ {A = Bool} true false → ⊥
 not-true e = no-clash (cc)
@@ -66,51 +50,63 @@ not-true e = no-clash (cc)
 state-of : {t u : Table} {f : Bool} → t ≡ u → _≡_ {A = State} (record { table = t; flag = f }) (record { table = u; flag = f })
 state-of {f} e = ap (λ (x : Table). let s : State = record { table = x; flag = f } in s) e
 
-pub one-run : {now n k m m′ : ℕ} {s a b : State} {e e′ : Ending} → Runs now n k s a e m → Runs now n k s b e′ m′ → SameRun a e m b e′ m′
-one-run (stop-quiet h) (stop-quiet k) = record { states = refl; endings = refl; counts = refl }
+pub one-run : {now n k : ℕ} {s a b : State} {r q : Report} → Runs now n k s a r → Runs now n k s b q → SameRun a r b q
+one-run (stop-quiet h) (stop-quiet k) = record { states = refl; reports = refl }
 one-run (stop-quiet h) (stop-bounded k q) = absurd (h k)
 one-run (stop-quiet h) (stop-exception k q x) = absurd (h k)
 one-run (stop-quiet h) (repeat k q x r) = absurd (h k)
 one-run (stop-bounded h p) (stop-quiet k) = absurd (k h)
-one-run (stop-bounded h p) (stop-bounded k q) = record { states = refl; endings = refl; counts = refl }
+one-run (stop-bounded h p) (stop-bounded k q) = record { states = refl; reports = refl }
 one-run (stop-bounded h p) (stop-exception k q x) = absurd (q p)
 one-run (stop-bounded h p) (repeat k q x r) = absurd (q p)
 one-run (stop-exception h p y) (stop-quiet k) = absurd (k h)
 one-run (stop-exception h p y) (stop-bounded k q) = absurd (p q)
-one-run (stop-exception h p y) (stop-exception k q x) = record { states = state-of (one-table y x); endings = refl; counts = refl }
+one-run (stop-exception h p y) (stop-exception k q x) = record { states = state-of (one-table y x); reports = refl }
 one-run (stop-exception h p y) (repeat k q x r) = absurd (not-true (one-flag y x))
 one-run (repeat h p y r) (stop-quiet k) = absurd (k h)
 one-run (repeat h p y r) (stop-bounded k q) = absurd (p q)
 one-run (repeat h p y r) (stop-exception k q x) = absurd (not-true (one-flag x y))
-one-run {now} {n} {m′} {b} {e′} (repeat {k = i} h p y r) (repeat k q x r′) =
-    one-run r (subst (λ (z : Table). Runs now n (suc i) (record { table = z; flag = false }) b e′ m′) (one-table x y) r′)
+one-run {now} {n} {b} {q = o} (repeat {k = i} h p y r) (repeat k q x r′) =
+    one-run r (subst (λ (z : Table). Runs now n (suc i) (record { table = z; flag = false }) b o) (one-table x y) r′)
 
--- ---- a run of n that is bounded, and then a run of m, are a run of n + m
+-- ---- no run enacts more than its bound
 
-bounded-count : {now n k m : ℕ} {s a : State} {e : Ending} → Runs now n k s a e m → e ≡ bounded → m ≡ n
+pub never-more : {now n k : ℕ} {s a : State} {r : Report} → k ≤ n → Runs now n k s a r → r .cycles ≤ n
+never-more l (stop-quiet h) = l
+never-more l (stop-bounded h p) = l
+never-more l (stop-exception h p y) = omega arith
+never-more {n} {k} l (repeat h p y r) = never-more (let z : suc k ≤ n = omega arith in z) r
+
+-- ---- a run of n that is bounded, and then a run of m, are a run of n + m, and the counts add up
+
+bounded-count : {now n k : ℕ} {s a : State} {r : Report} → Runs now n k s a r → r .ending ≡ bounded → r .cycles ≡ n
 bounded-count (stop-quiet h) q = absurd (no-clash (cc))
 bounded-count (stop-bounded h p) q = p
 bounded-count (stop-exception h p y) q = absurd (no-clash (cc))
 bounded-count (repeat h p y r) q = bounded-count r q
 
+abbrev more : ℕ → Report → Report
+more i r = ends (r .ending) (i + r .cycles)
+
 -- with i more cycles enacted and allowed
-later : {now n k m : ℕ} {s a : State} {e : Ending} (i : ℕ) → Runs now n k s a e m → Runs now (i + n) (i + k) s a e (i + m)
+later : {now n k : ℕ} {s a : State} {r : Report} (i : ℕ) → Runs now n k s a r → Runs now (i + n) (i + k) s a (more i r)
 later i (stop-quiet h) = stop-quiet h
 later i (stop-bounded h p) = stop-bounded h (ap (λ (x : ℕ). i + x) p)
 later {now} {n} i (stop-exception {k} {s} {t} h p y) =
-    subst (λ (x : ℕ). Runs now (i + n) (i + k) s (record { table = t; flag = true }) exception x) (let z : suc (i + k) ≡ i + suc k = omega arith in z)
+    subst (λ (x : ℕ). Runs now (i + n) (i + k) s (record { table = t; flag = true }) (ends exception x)) (let z : suc (i + k) ≡ i + suc k = omega arith in z)
     (stop-exception h (λ (q : i + k ≡ i + n). p (omega arith)) y)
-later {now} {n} i (repeat {k} {m} {s} {s′} {t} {e} h p y r) =
+later {now} {n} i (repeat {k} {s} {s′} {t} {r = o} h p y r) =
     repeat h (λ (q : i + k ≡ i + n). p (omega arith)) y
-    (subst (λ (x : ℕ). Runs now (i + n) x (record { table = t; flag = false }) s′ e (i + m)) (let z : i + suc k ≡ suc (i + k) = omega arith in z) (later i r))
+    (subst (λ (x : ℕ). Runs now (i + n) x (record { table = t; flag = false }) s′ (more i o)) (let z : i + suc k ≡ suc (i + k) = omega arith in z) (later i r))
 
-then-more : {now n k q m : ℕ} {s a b : State} {e e′ : Ending} (j : ℕ) → k ≤ n → Runs now n k s a e q → e ≡ bounded → Runs now (n + j) n a b e′ m → Runs now (n + j) k s b e′ m
-then-more j l (stop-quiet h) z r = absurd (no-clash (cc))
-then-more {now} {n} {m} {b} {e′} j l (stop-bounded {s} h p) z r = subst (λ (x : ℕ). Runs now (n + j) x s b e′ m) (sym p) r
-then-more j l (stop-exception h p y) z r = absurd (no-clash (cc))
-then-more {n} j l (repeat {k = i} h p y r′) z r =
-    repeat h (λ (q : i ≡ n + j). p (omega arith)) y (then-more j (let w : suc i ≤ n = omega arith in w) r′ z r)
+then-more : {now n k : ℕ} {s a b : State} {r q : Report} (j : ℕ) → k ≤ n → Runs now n k s a r → r .ending ≡ bounded → Runs now (n + j) n a b q → Runs now (n + j) k s b q
+then-more j l (stop-quiet h) z o = absurd (no-clash (cc))
+then-more {now} {n} {b} {q} j l (stop-bounded {s} h p) z o = subst (λ (x : ℕ). Runs now (n + j) x s b q) (sym p) o
+then-more j l (stop-exception h p y) z o = absurd (no-clash (cc))
+then-more {n} j l (repeat {k = i} h p y r′) z o =
+    repeat h (λ (q : i ≡ n + j). p (omega arith)) y (then-more j (let w : suc i ≤ n = omega arith in w) r′ z o)
 
-pub runs-compose : {now n m q q′ : ℕ} {s a b : State} {e : Ending} → Runs now n 0 s a bounded q → Runs now m 0 a b e q′ → Runs now (n + m) 0 s b e (n + q′)
-runs-compose {now} {n} {m} {q′} {a} {b} {e} h k =
-    then-more m (omega arith) h refl (subst (λ (x : ℕ). Runs now (n + m) x a b e (n + q′)) (let z : n + 0 ≡ n = omega arith in z) (later n k))
+pub runs-compose : {now n m q q′ : ℕ} {s a b : State} {e : Ending} → Runs now n 0 s a (ends bounded q) → Runs now m 0 a b (ends e q′) → Runs now (n + m) 0 s b (ends e (q + q′))
+runs-compose {now} {n} {m} {q} {q′} {s} {a} {b} {e} h k =
+    subst (λ (x : ℕ). Runs now (n + m) 0 s b (ends e (x + q′))) (sym (bounded-count h refl))
+    (then-more m (omega arith) h refl (subst (λ (x : ℕ). Runs now (n + m) x a b (ends e (n + q′))) (let z : n + 0 ≡ n = omega arith in z) (later n k)))

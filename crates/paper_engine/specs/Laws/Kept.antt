@@ -1,4 +1,4 @@
--- What every call and every cycle keeps of the table of a guideline that loads; and its view. Law: such a table has exactly one view, and the view is sound.
+-- What every call and every cycle keeps of the table of a guideline that loads, `Kept`; such a table has exactly one view, which is computed and sound.
 use Prim.Native.Nat.{ℕ, zero, suc, _<_}
 use native.Mathlib.Omega.{arith}
 use native.Mathlib.Decide.{decLt}
@@ -20,57 +20,56 @@ use Rattle.paper_guideline.specs.Parts.{Typed, expressions}
 use Rattle.paper_guideline.specs.Parts as Parts
 use Rattle.paper_guideline.specs.Names.{Names, NameBreach, task-twice, data-item-twice}
 use Rattle.paper_guideline.specs.Refusals.{Fitting, declared-items}
-use Rattle.paper_engine.specs.Table
-use Table.{task, data-item, Component, _№_, Class, a-data-item, a-plan, an-action, an-enquiry, TaskClass, plan-is-task, enquiry-is-task, action-is-task}
+use Rattle.paper_rows.specs.Table
+use Table.{task, data-item, source, Component, _№_, Class, a-data-item, a-plan, an-action, an-enquiry, TaskClass, plan-is-task, enquiry-is-task, action-is-task}
 use Table.{Property, class, name, state, trigger-active, confirmed, cycle-count, nbr-cycles-value, start-at, in-progress-time, discarded-time, completed-time, actual-procedure, parent-plan, postcondition, sources, type, value, requested}
-use Table.{RowValue, value-is, state-is, class-is, type-is, time-is, component-is, text-row, integer-row, Table, Contains, TaskId, DataItemId}
-use Table.{ValueRow, no-value, a-value, ItemRows, NameRow, no-name, a-name, ParentRow, no-parent, a-parent, StateRow, in-state, in-none, TaskRows, ViewOf}
-use Rattle.paper_engine.specs.Load
+use Table.{Allowed, allowed-state, RowValue, value-is, state-is, class-is, type-is, time-is, component-is, text-row, integer-row, Table, Contains, TaskId, DataItemId}
+use Table.{ValueRow, no-value, a-value, ItemRows, NameRow, no-name, a-name, ParentRow, no-parent, a-parent, StateRow, no-state, in-state, in-none, TaskRows, ViewOf}
+use Rattle.paper_rows.specs.Load
 use Load.{InstantiateTask, load-5, component-6, InstantiateComponent, task-5, class-constant, ClassRow, Adds, task-2, task-3, attribute-1b, attribute-1c, data-item-3, data-item-4a, data-item-4b, Initial}
-use Rattle.paper_engine.specs.Conditions.{StartAt}
-use Rattle.paper_engine.specs.Laws.Deciding.{valueF, stateF, textF, componentF, task-numberF}
+use Rattle.paper_rows.specs.Laws.Seen.{valueF, stateF, textF, taskF}
+use Rattle.paper_rows.specs.Laws.Lists.{at-most, same-lists, indexed, indexed-at, at-indexed, at-map, map-at}
+use Rattle.paper_rows.specs.Laws.Lawful.{Lawful, defined}
 
--- ---- a guideline that loads, as far as the laws ask
+-- ---- the rows that calls and cycles change
 
-pub record Lawful (g : List TopLevel) : Type 0 where
-  -- every task is reached from the root
-  pub reached : {c : ℕ} {k : Task} → At (tasks g) c k → InstantiateTask g k c
-  pub names : (p : ℕ) → ¬ NameBreach g p
-  pub types : {i : ℕ} {x : Typed} → At (expressions g) i x → Fitting (declared-items g) x (x .role)
+pub data Moving : Component → Property → Type 0 where
+  state-moves : {T : ℕ} → Moving (task № T) state
+  trigger-moves : {T : ℕ} → Moving (task № T) trigger-active
+  confirmed-moves : {T : ℕ} → Moving (task № T) confirmed
+  count-moves : {T : ℕ} → Moving (task № T) cycle-count
+  cycles-move : {T : ℕ} → Moving (task № T) nbr-cycles-value
+  start-moves : {T : ℕ} → Moving (task № T) start-at
+  in-progress-moves : {T : ℕ} → Moving (task № T) in-progress-time
+  discarded-moves : {T : ℕ} → Moving (task № T) discarded-time
+  completed-moves : {T : ℕ} → Moving (task № T) completed-time
+  procedure-moves : {T : ℕ} → Moving (task № T) actual-procedure
+  value-moves : {d : ℕ} → Moving (data-item № d) value
+  requested-moves : {d : ℕ} → Moving (data-item № d) requested
 
--- ---- the properties that calls and cycles change
-
-pub data Changing : Property → Type 0 where
-  state-changes : Changing state
-  trigger-changes : Changing trigger-active
-  confirmed-changes : Changing confirmed
-  count-changes : Changing cycle-count
-  cycles-change : Changing nbr-cycles-value
-  start-changes : Changing start-at
-  in-progress-changes : Changing in-progress-time
-  discarded-changes : Changing discarded-time
-  completed-changes : Changing completed-time
-  procedure-changes : Changing actual-procedure
-  value-changes : Changing value
-  requested-changes : Changing requested
-
-pub fixed-class : ¬ Changing class
+pub fixed-class : {c : Component} → ¬ Moving c class
 fixed-class h = elim h [ ]
 
-pub fixed-name : ¬ Changing name
+pub fixed-name : {c : Component} → ¬ Moving c name
 fixed-name h = elim h [ ]
 
-pub fixed-type : ¬ Changing type
+pub fixed-type : {c : Component} → ¬ Moving c type
 fixed-type h = elim h [ ]
 
-pub fixed-sources : ¬ Changing sources
+pub fixed-sources : {c : Component} → ¬ Moving c sources
 fixed-sources h = elim h [ ]
 
-pub fixed-postcondition : ¬ Changing postcondition
+pub fixed-postcondition : {c : Component} → ¬ Moving c postcondition
 fixed-postcondition h = elim h [ ]
 
-pub fixed-parent : ¬ Changing parent-plan
+pub fixed-parent : {c : Component} → ¬ Moving c parent-plan
 fixed-parent h = elim h [ ]
+
+-- a component of the guideline
+pub data There (g : List TopLevel) : Component → Type 0 where
+  task-there : {n : ℕ} {k : Task} → At (tasks g) n k → There g (task № n)
+  item-there : {n : ℕ} {x : DataItem} → At (data-items g) n x → There g (data-item № n)
+  source-there : {n : ℕ} {s : Parts.Source} → At (Parts.sources g) n s → There g (source № n)
 
 -- a value row holds unknown or a value of the item's declared type
 pub record Typed-row (t : Table) (d : ℕ) (r : RowValue) : Type 0 where
@@ -80,23 +79,26 @@ pub record Typed-row (t : Table) (d : ℕ) (r : RowValue) : Type 0 where
 
 pub record Kept (g : List TopLevel) (t : Table) : Type 0 where
   -- the other rows are those of load
-  pub fixed : {c : Component} {p : Property} {r : RowValue} → ¬ Changing p → Contains t c p r ↔ Adds g c p r
+  pub fixed : {c : Component} {p : Property} {r : RowValue} → ¬ Moving c p → Contains t c p r ↔ Adds g c p r
+  -- a row that moves is of a component that is there, and holds an allowed value
+  pub there : {c : Component} {p : Property} {r : RowValue} → Moving c p → Contains t c p r → There g c
+  pub allowed : {c : Component} {p : Property} {r : RowValue} → Moving c p → Contains t c p r → Allowed p r
   -- every task is in one of the four states
   pub states : {T : ℕ} → TaskId t T → (s : TaskState) × Contains t (task № T) state (state-is s)
   -- no cycling task in the first edition
-  pub no-start : {T r : ℕ} → ¬ StartAt t T r
+  pub no-start : {T r : ℕ} → ¬ Contains t (task № T) start-at (time-is r)
   pub no-cycles : {T : ℕ} {n : ℤ} → ¬ Contains t (task № T) nbr-cycles-value (integer-row n)
   -- every data item holds unknown or a value of its declared type
   pub values : {d : ℕ} {r : RowValue} → Contains t (data-item № d) value r → Typed-row t d r
 
 -- ---- the initial table
 
-pub defined : {g : List TopLevel} {t : Task} {c : ℕ} → InstantiateTask g t c → At (tasks g) c t
-defined (load-5 h) = h
-defined (component-6 h k) = k
-
 pub class-instantiated : {g : List TopLevel} {T : ℕ} {r : RowValue} → Adds g (task № T) class r → (k : Task) × InstantiateTask g k T
 class-instantiated (task-2 h) = (h .definition, h .instantiated)
+
+-- of the rows that move, load adds the state alone
+added-moving : {g : List TopLevel} {c : Component} {p : Property} {r : RowValue} → Moving c p → Adds g c p r → (There g c) × (Allowed p r)
+added-moving state-moves (task-3 h) = (task-there (defined h), allowed-state)
 
 no-time : {g : List TopLevel} {T r : ℕ} → ¬ Adds g (task № T) start-at (time-is r)
 no-time h = elim h [ ]
@@ -111,6 +113,8 @@ pub initial-kept : {g : List TopLevel} {t : Table} → Initial g t → Kept g t
 initial-kept h =
     record {
       fixed = λ {c} {p} {r} n. h .rows c p r;
+      there = λ {c} {p} {r} m k. added-moving m (h .rows c p r .0 k) .0;
+      allowed = λ {c} {p} {r} m k. added-moving m (h .rows c p r .0 k) .1;
       states = λ {T} k. (dormant, h .rows (task № T) state (state-is dormant) .1 (task-3 (class-instantiated (h .rows (task № T) class _ .0 (k .row)) .1)));
       no-start = λ {T} {r} k. no-time (h .rows (task № T) start-at (time-is r) .0 k);
       no-cycles = λ {T} {n} k. no-nbr (h .rows (task № T) nbr-cycles-value _ .0 k);
@@ -120,10 +124,10 @@ initial-kept h =
 -- ---- facts of a table that is kept
 
 module _ {g : List TopLevel} {t : Table} (kept : Kept g t) where
-  pub adds : {c : Component} {p : Property} {r : RowValue} → ¬ Changing p → Contains t c p r → Adds g c p r
+  pub adds : {c : Component} {p : Property} {r : RowValue} → ¬ Moving c p → Contains t c p r → Adds g c p r
   adds n h = kept .fixed n .0 h
 
-  pub has : {c : Component} {p : Property} {r : RowValue} → ¬ Changing p → Adds g c p r → Contains t c p r
+  pub has : {c : Component} {p : Property} {r : RowValue} → ¬ Moving c p → Adds g c p r → Contains t c p r
   has n h = kept .fixed n .1 h
 
   pub instantiated : {T : ℕ} → TaskId t T → (k : Task) × InstantiateTask g k T
@@ -138,44 +142,13 @@ pub task-id : {g : List TopLevel} {t : Table} {k : Task} {T : ℕ} → Kept g t 
 task-id {k} kept h =
     record { its = class-constant (k .class); row = has kept fixed-class (task-2 (record { definition = k; instantiated = h; constant = refl })); task-class = task-constant (k .class) }
 
--- ---- lists with the same elements
-
-no-element : {A : Type 0} {i : ℕ} {x : A} → ¬ At [] i x
-no-element h = elim h [ ]
-
-dropped : {A : Type 0} {x y : A} {l : List A} {i : ℕ} → At (y ∷ l) (suc i) x → At l i x
-dropped (at-later h) = h
-
-pub same-lists : {A : Type 0} (a b : List A) → ((i : ℕ) (x : A) → At a i x ↔ At b i x) → a ≡ b
-same-lists [] [] f = refl
-same-lists [] (y ∷ b) f = absurd (no-element (f 0 y .1 at-first))
-same-lists (x ∷ a) [] f = absurd (no-element (f 0 x .0 at-first))
-same-lists (x ∷ a) (y ∷ b) f =
-    let e : x ≡ y = at-one (f 0 x .0 at-first) at-first in
-    let k = same-lists a b (λ i z. (λ h. dropped (f (suc i) z .0 (at-later h)), λ h. dropped (f (suc i) z .1 (at-later h)))) in
-    cc
-
--- a list made of another, element by element, by number
-abbrev pub indexed : {A B : Type 0} → (ℕ → A → B) → List A → List B
-indexed f [] = []
-indexed f (x ∷ l) = f 0 x ∷ indexed (λ i. f (suc i)) l
-
-pub indexed-at : {A B : Type 0} (f : ℕ → A → B) {l : List A} {i : ℕ} {x : A} → At l i x → At (indexed f l) i (f i x)
-indexed-at f at-first = at-first
-indexed-at f (at-later h) = at-later (indexed-at (λ i. f (suc i)) h)
-
-pub at-indexed : {A B : Type 0} (f : ℕ → A → B) (l : List A) {i : ℕ} {y : B} → At (indexed f l) i y → (x : A) × At l i x × (f i x ≡ y)
-at-indexed f [] h = absurd (no-element h)
-at-indexed f (x ∷ l) at-first = (x, at-first, refl)
-at-indexed f (z ∷ l) (at-later h) = let k = at-indexed (λ i. f (suc i)) l h in (k .0, at-later (k .1), k .2)
-
 -- ---- the view of a table
 
 abbrev pub item-view : Table → ℕ → DataItem → Item
 item-view t d x = record { name = x .named .spelt; declared = x .declared; value = valueF (t (data-item № d) value) }
 
 abbrev pub task-view : Table → ℕ → Task → Views.Task
-task-view t c k = record { name = textF (t (task № c) name); parent = task-numberF (componentF (t (task № c) parent-plan)); state = stateF (t (task № c) state) }
+task-view t c k = record { name = textF (t (task № c) name); parent = taskF (t (task № c) parent-plan); state = stateF (t (task № c) state) }
 
 abbrev pub viewF : List TopLevel → Table → View
 viewF g t = record { items = indexed (item-view t) (data-items g); tasks = indexed (task-view t) (tasks g) }
@@ -203,11 +176,11 @@ name-row-only : {o : Option RowValue} {w : Option (List ℕ)} → NameRow o w �
 name-row-only no-name = refl
 name-row-only a-name = refl
 
-parent-row : (o : Option RowValue) → ((r : RowValue) → o ≡ some r → (n : ℕ) × (r ≡ component-is (task № n))) → ParentRow o (task-numberF (componentF o))
+parent-row : (o : Option RowValue) → ((r : RowValue) → o ≡ some r → (n : ℕ) × (r ≡ component-is (task № n))) → ParentRow o (taskF o)
 parent-row none f = no-parent
-parent-row (some r) f = let k = f r refl in subst (λ (x : RowValue). ParentRow (some x) (task-numberF (componentF (some x)))) (sym (k .1)) a-parent
+parent-row (some r) f = let k = f r refl in subst (λ (x : RowValue). ParentRow (some x) (taskF (some x))) (sym (k .1)) a-parent
 
-parent-row-only : {o : Option RowValue} {w : Option ℕ} → ParentRow o w → task-numberF (componentF o) ≡ w
+parent-row-only : {o : Option RowValue} {w : Option ℕ} → ParentRow o w → taskF o ≡ w
 parent-row-only no-parent = refl
 parent-row-only a-parent = refl
 
@@ -215,6 +188,7 @@ state-row : (o : Option RowValue) (s : TaskState) → o ≡ some (state-is s) �
 state-row o s e = subst (λ (x : Option RowValue). StateRow x (stateF x)) (sym e) in-state
 
 state-row-only : {o : Option RowValue} {w : Option TaskState} → StateRow o w → stateF o ≡ w
+state-row-only no-state = refl
 state-row-only in-state = refl
 state-row-only in-none = refl
 
@@ -239,15 +213,6 @@ same-text e = cc
 
 same-value : {r : RowValue} {v w : Value} → some r ≡ some (value-is w) → r ≡ value-is v → v ≡ w
 same-value e f = cc
-
-at-map : {A B : Type 0} (f : A → B) {l : List A} {i : ℕ} {x : A} → At l i x → At (map f l) i (f x)
-at-map f at-first = at-first
-at-map f (at-later h) = at-later (at-map f h)
-
-pub map-at : {A B : Type 0} (f : A → B) (l : List A) {i : ℕ} {y : B} → At (map f l) i y → (x : A) × At l i x × (f x ≡ y)
-map-at f [] h = absurd (no-element h)
-map-at f (x ∷ l) at-first = (x, at-first, refl)
-map-at f (z ∷ l) (at-later h) = let k = map-at f l h in (k .0, at-later (k .1), k .2)
 
 -- ---- the table has this view
 
@@ -312,9 +277,6 @@ module _ {g : List TopLevel} {t : Table} (lawful : Lawful g) (kept : Kept g t) w
   view-of = record { items = λ d x. (items-to d x, items-back d x); tasks = λ c x. (tasks-to c x, tasks-back c x) }
 
   -- ---- it is sound
-
-  at-most : {i j : ℕ} → ¬ (i < j) → ¬ (j < i) → i ≡ j
-  at-most n m = omega arith
 
   items-apart : {i j : ℕ} {x y : Item} → At (viewF g t .items) i x → At (viewF g t .items) j y → Alike (x .name) (y .name) → i ≡ j
   items-apart {i} {j} {x} {y} h k e =

@@ -1,5 +1,5 @@
 -- Laws: of a plan that is dormant every component is dormant, in every table that a run comes to; the Exception flag is set by value rows alone;
--- the order of review does not matter; and the Changes table needs at most 576 rows.
+-- and the order of review does not matter.
 use Prim.Native.Nat.{ℕ, suc, _+_, _≤_, _<_}
 use native.Mathlib.Omega.{arith}
 use mathlib.Core.Path.{_≡_, refl, sym, ap, subst, _∙_}
@@ -11,23 +11,19 @@ use lib.ListN.{length}
 use Rattle.paper_expressions.specs.Laws.Search.{no-clash}
 use Rattle.paper_expressions.specs.Values.{TaskState, dormant, in-progress, discarded, completed}
 use Rattle.paper_guideline.specs.Structure.{TopLevel, tasks}
-use Rattle.paper_guideline.specs.Parts.{assignments, sources}
-use Rattle.paper_guideline.specs.Limits.{task-limit, assignment-limit, source-limit}
-use Rattle.paper_guideline.specs.Refusals.{limit-stage, many-tasks, many-assignments, many-sources, Read, Answers, loads, is-loaded}
-use Rattle.paper_engine.specs.Table.{Assigns, task, Component, _№_, Property, state, parent-plan, RowValue, state-is, component-is, Table, Contains, TaskId}
-use Rattle.paper_engine.specs.Load.{Initial, task-3}
+use Rattle.paper_rows.specs.Table.{Assigns, task, Component, _№_, Property, state, parent-plan, RowValue, state-is, component-is, Table, Contains, TaskId}
+use Rattle.paper_rows.specs.Load.{Initial, task-3}
 use Rattle.paper_engine.specs.Conditions
 use Conditions.{InitialiseConditions, initialise-2b, StartConditions, ParentAllows, no-parent-plan, parent-in-progress, DiscardConditions, discard-1i, discard-1ii, discard-2}
 use Rattle.paper_engine.specs.Operations
 use Operations.{Review, review-1, review-2, review-3, review-4, Initialise, initialise-1, Start, start-1, start-9, Discard, discard-1, Complete, complete-1, complete-3, complete-4, Asks, asks-1, asks-2, asks-3, asks-4, Changes, asked-by, §8·5·1-1, §8·5·1-2, §8·5·1-3, §8·5·1-4}
 use Rattle.paper_engine.specs.Cycle
-use Cycle.{Rows, OnlyRow, Collision, Enacted, not-named, enact-c, enact-d, Flagged, collided, as-it-was, EnactChanges, Ending, State, Runs, stop-quiet, stop-bounded, stop-exception, repeat}
+use Cycle.{Rows, OnlyRow, Collision, Enacted, not-named, enact-c, enact-d, Cause, collides, Flagged, raised, as-it-was, EnactChanges, Report, State, Runs, stop-quiet, stop-bounded, stop-exception, repeat}
 use Rattle.paper_engine.specs.Laws.CollisionLaws.{Place, own, place, Valued, not-valued, changes-same, no-state-collision}
-use Rattle.paper_engine.specs.Laws.Kept.{Lawful, Kept, adds, has, instantiated, fixed-parent}
+use Rattle.paper_rows.specs.Laws.Lawful.{Lawful}
+use Rattle.paper_engine.specs.Laws.Kept.{Kept, adds, has, instantiated, fixed-parent}
 use Rattle.paper_engine.specs.Laws.KeptLaws.{cycle-kept, asks-state}
-use Rattle.paper_engine.specs.Laws.ReviewLaws.{child-id}
-use Rattle.paper_engine.specs.Laws.Finite.{Finite, finite-as}
-use Rattle.paper_engine.specs.Laws.RowsLaws.{weight, changes-finite, at-most-576}
+use Rattle.paper_engine.specs.Laws.Chains.{child-id}
 
 -- ---- an asked row becomes a row; a row that none asks for stays
 
@@ -169,7 +165,7 @@ initial-dormant {t} lawful i kept = record { below = λ {C} {P} h k. dormant-row
     dormant-row : {C : ℕ} → TaskId t C → Contains t (task № C) state (state-is dormant)
     dormant-row {C} h = i .rows (task № C) state (state-is dormant) .1 (task-3 (instantiated kept h .1))
 
-pub run-dormant : {g : List TopLevel} {now n k m : ℕ} {s s′ : State} {e : Ending} → Lawful g → Kept g (s .table) → DormantBelow (s .table) → Runs now n k s s′ e m → DormantBelow (s′ .table)
+pub run-dormant : {g : List TopLevel} {now n k : ℕ} {s s′ : State} {r : Report} → Lawful g → Kept g (s .table) → DormantBelow (s .table) → Runs now n k s s′ r → DormantBelow (s′ .table)
 run-dormant lawful kept d (stop-quiet h) = d
 run-dormant lawful kept d (stop-bounded h p) = d
 run-dormant lawful kept d (stop-exception h p y) = cycle-dormant lawful kept d y
@@ -178,7 +174,7 @@ run-dormant lawful kept d (repeat h p y r) = run-dormant lawful (cycle-kept lawf
 -- ---- the flag is set by value rows alone
 
 pub exception-by-values : {t : Table} {now : ℕ} {f′ : Bool} → Flagged (Changes t now) false f′ → f′ ≡ true → (c : Component) × (p : Property) × Valued c p × Collision (Changes t now) c p
-exception-by-values {t} {now} (collided {c} {p} k) e = (c, p, go (changes-same (k .other-row) (k .row)), k)
+exception-by-values {t} {now} (raised (collides {c} {p} k)) e = (c, p, go (changes-same (k .other-row) (k .row)), k)
   where
     go : (k .other ≡ k .one) ⊎ Valued c p → Valued c p
     go (inl q) = absurd (k .differ q)
@@ -195,20 +191,12 @@ enacted-same f (not-named n) = not-named (λ r h. n r (f r .1 h))
 enacted-same f (enact-c {r} h) = enact-c (record { row = f r .0 (h .row); only = λ q k. h .only q (f q .1 k) })
 enacted-same f (enact-d h) = enact-d (collision-same (λ r. f r .0) h)
 
+cause-same : {N M : Rows} → ((c : Component) (p : Property) (r : RowValue) → N c p r → M c p r) → Cause N → Cause M
+cause-same f (collides {c} {p} k) = collides (collision-same (f c p) k)
+
 flagged-same : {N M : Rows} {f f′ : Bool} → ((c : Component) (p : Property) (r : RowValue) → N c p r ↔ M c p r) → Flagged N f f′ → Flagged M f f′
-flagged-same e (collided {c} {p} k) = collided (collision-same (λ r. e c p r .0) k)
-flagged-same e (as-it-was n) = as-it-was (λ c p k. n c p (collision-same (λ r. e c p r .1) k))
+flagged-same e (raised k) = raised (cause-same (λ c p r. e c p r .0) k)
+flagged-same e (as-it-was n) = as-it-was (λ k. n (cause-same (λ c p r. e c p r .1) k))
 
 pub same-rows-same-enactment : {N M : Rows} {t t′ : Table} {f f′ : Bool} → ((c : Component) (p : Property) (r : RowValue) → N c p r ↔ M c p r) → EnactChanges N t f t′ f′ → EnactChanges M t f t′ f′
 same-rows-same-enactment e h = record { rows = λ c p. enacted-same (e c p) (h .rows c p); flag = flagged-same e (h .flag) }
-
--- ---- 576
-
-pub changes-576 : {Short : Type 0} {text : List ℕ} {g : List TopLevel} {t : Table} → Answers Short text loads → Read text g → Lawful g → Kept g t → (now : ℕ) → Finite (Changes t now) 576
-changes-576 {Short} {text} {g} {t} (is-loaded r n) q lawful kept now =
-    finite-as (λ c p r h. h) (λ c p r h. h)
-    (at-most-576 g (within (λ l. n limit-stage _ (many-tasks q l))) (within (λ l. n limit-stage _ (many-assignments q l))) (within (λ l. n limit-stage _ (many-sources q l))))
-    (changes-finite lawful kept now)
-  where
-    within : {a b : ℕ} → ¬ (b < a) → a ≤ b
-    within m = omega arith

@@ -48,7 +48,7 @@ pub record Reached (ts : List Ty) (list : List Allowed) (t : Ty) : Type 0 where
   pub allows : Among (args ⇒ t) list
   pub reaches : Reaches ts args
 
-reached : {ts : List Ty} {list : List Allowed} {t : Ty} → First ts list t → Reached ts list t
+pub reached : {ts : List Ty} {list : List Allowed} {t : Ty} → First ts list t → Reached ts list t
 reached (first h) = record { args = _; allows = here; reaches = h }
 reached (next h f) = let r = reached f in record { args = r .args; allows = there (r .allows); reaches = r .reaches }
 
@@ -318,7 +318,7 @@ module _ (τ : View) (T : ℕ) where
       go none q = it-comes (atom-data k (data-3 (λ y w i p. let s = at-one h i in no-clash (cc)))) (of-scalar unknown-of-any)
 
   mutual
-    comes : Sound τ → {e : Expr} {t : Ty} → HasType τ T e t → Comes e t
+    pub comes : Sound τ → {e : Expr} {t : Ty} → HasType τ T e t → Comes e t
     comes sound (rule-1b h k e) = item-comes sound h (resolve-data-2 h k) e
     comes sound (rule-1c m) = it-comes (atom-text (resolve-data-3 m)) (of-scalar text-of)
     comes sound rule-2 = it-comes number-integer (of-scalar integer-of)
@@ -333,7 +333,7 @@ module _ (τ : View) (T : ℕ) where
         let k = come sound hs in
         apply-comes (k .fits) (applied-finds (sound .apart) h (k .typed))
 
-    come : Sound τ → {es : Exprs} {ts : List Ty} → HaveTypes τ T es ts → Come es ts
+    pub come : Sound τ → {es : Exprs} {ts : List Ty} → HaveTypes τ T es ts → Come es ts
     come sound types-none = record { values = []; fits = values-none; typed = none-fit }
     come sound (types-more h hs) =
         let k = comes sound h in
