@@ -224,7 +224,7 @@ expressionF (some (assertion-is a)) = none
 expressionF (some (component-is c)) = none
 expressionF (some (components-are l)) = none
 
-expression-has : (o : Option RowValue) (x : Expr) → expressionF o ≡ some x → o ≡ some (expression-is x)
+pub expression-has : (o : Option RowValue) (x : Expr) → expressionF o ≡ some x → o ≡ some (expression-is x)
 expression-has none x q = absurd (no-clash (cc))
 expression-has (some (value-is w)) x q = absurd (no-clash (cc))
 expression-has (some (state-is s)) x q = absurd (no-clash (cc))

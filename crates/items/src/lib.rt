@@ -1,0 +1,139 @@
+// The value of a data item in its one form: 17 tags, 17 numbers, and 48 bytes for the text of each of 16 elements.
+use numbers::Num;
+use numbers::Wide;
+use values::Handle;
+use values::Scalar;
+use values::Value;
+ghost use mathlib.Core.Path.{_≡_};
+ghost use Prim.Native.Nat.{_≤_, _<_};
+ghost use lib.IntN.{natAbs};
+ghost use Rattle.paper_expressions.specs.Limits.{real-limit};
+ghost use Rattle.parts.specs.Texts.{handle as handleOf, moved as movedOf};
+ghost use Rattle.state.specs.Cell.{bit as bitOf};
+ghost use Rattle.items.specs.Encode.{tagC, speltC, NumberOf, ElementOf, ShapeOf, PutElement, Encodes};
+
+// A number of a value as a cell holds it.
+fn moved(n: Num) -> u32
+    ensures { λ r. ⌜ (natAbs (n .z) ≤ real-limit → r ≡ movedOf (n .z)) ⌝ }
+{
+    let w = numbers::wide_of(n);
+    if numbers::real_fits(w) {
+        let up = numbers::sum(w, Wide { z: 2_000_000_000 });
+        let z = up.z;
+        return z as u32;
+    }
+    0
+}
+
+// The handle of a text of `n` bytes at a place.
+fn handle(place: usize, n: usize) -> u32
+    ensures { λ r. ⌜ (place < 1000000 → n < 64 → r ≡ handleOf place n) ⌝ }
+{
+    if place < 1000000 {
+        if n < 64 {
+            return (place * 64 + n) as u32;
+        }
+    }
+    0
+}
+
+fn tag(x: Scalar) -> u32
+    ensures { λ r. ⌜ r ≡ tagC x ⌝ }
+{
+    match x {
+        Scalar::Unknown => 0,
+        Scalar::Truth(_) => 1,
+        Scalar::Int(_) => 2,
+        Scalar::Real(_) => 3,
+        Scalar::Text(_) => 4,
+    }
+}
+
+fn bit(b: bool) -> u32
+    ensures { λ r. ⌜ r ≡ bitOf b ⌝ }
+{
+    if b {
+        return 1;
+    }
+    0
+}
+
+// The number of an element, whose text of `n` bytes has this place.
+fn number(x: Scalar, place: usize, n: usize) -> u32
+    ensures { λ r. ⌜ NumberOf x place n r ⌝ }
+{
+    match x {
+        Scalar::Unknown => 0,
+        Scalar::Truth(b) => bit(b),
+        Scalar::Int(z) => moved(z),
+        Scalar::Real(z) => moved(z),
+        Scalar::Text(_) => handle(place, n),
+    }
+}
+
+// The bytes of an element: none, if it is no text.
+fn spelt(b: &[u8], x: Scalar) -> &[u8]
+    ensures { λ r. ⌜ now r ≡ speltC (now (b .entry)) x ⌝ }
+{
+    match x {
+        Scalar::Unknown => values::part(b, Handle { at: 0, len: 0 }),
+        Scalar::Truth(_) => values::part(b, Handle { at: 0, len: 0 }),
+        Scalar::Int(_) => values::part(b, Handle { at: 0, len: 0 }),
+        Scalar::Real(_) => values::part(b, Handle { at: 0, len: 0 }),
+        Scalar::Text(h) => values::part(b, h),
+    }
+}
+
+// The i-th element of a value; unknown where there is none.
+fn element(v: Value, i: usize) -> Scalar
+    ensures { λ r. ⌜ ElementOf v i r ⌝ }
+{
+    if v.many {
+        let l = v.list;
+        if i < values::size(l) {
+            return values::get(l, i);
+        }
+        return Scalar::Unknown;
+    }
+    if i == 0 {
+        return v.one;
+    }
+    Scalar::Unknown
+}
+
+// 0 for one value, or one more than the length of a list.
+fn shape(v: Value) -> u32
+    ensures { λ r. ⌜ ShapeOf v r ⌝ }
+{
+    if v.many {
+        let n = values::size(v.list);
+        return n as u32 + 1;
+    }
+    0
+}
+
+// Writes the i-th element, whose text has its place among the text bytes.
+fn put_element(b: &[u8], x: Scalar, place: usize, cells: &mut [u32], out: &mut [u8], i: usize)
+    requires { ⌜ (i < 16) × (place < 100000) ⌝ }
+    ensures { λ r. ⌜ PutElement (now (b .entry)) x place i (now (cells .entry)) (now (cells .exit)) (now (out .entry)) (now (out .exit)) ⌝ }
+{
+    let t = spelt(b, x);
+    let n = t.len();
+    blocks::copy_bytes(t, 0, out, 48 * i, 48);
+    blocks::put_cell(cells, 1 + i, tag(x));
+    blocks::put_cell(cells, 18 + i, number(x, place + 48 * i, n));
+}
+
+// Writes a value, whose texts have their places from `place` on among the text bytes.
+pub fn encode(b: &[u8], v: Value, place: usize, cells: &mut [u32], out: &mut [u8])
+    requires { ⌜ place < 100000 ⌝ }
+    ensures { λ r. ⌜ Encodes (now (b .entry)) v place (now (cells .exit)) (now (out .exit)) ⌝ }
+{
+    blocks::put_cell(cells, 0, shape(v));
+    blocks::put_cell(cells, 17, 1);
+    let mut i: usize = 0;
+    while i < 16 {
+        put_element(b, element(v, i), place, cells, out, i);
+        i += 1;
+    }
+}

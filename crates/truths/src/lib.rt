@@ -1,0 +1,119 @@
+// The expressions of tasks, by the evaluator: conditions, and assigned values.
+use limits::Expression;
+use values::Scalar;
+use values::Value;
+ghost use mathlib.Core.Path.{_≡_};
+ghost use Rattle.operators.specs.Twins.{trueC};
+ghost use Rattle.truths.specs.Part.{partOf, shownBy};
+ghost use Rattle.parts.specs.Part.{table};
+ghost use Rattle.evaluator.specs.Published.{Published};
+ghost use Rattle.paper_guideline.specs.Limits.{depth-limit};
+ghost use Rattle.truths.specs.Truth.{TruthOf, AllowedOf, AllAllowed, EndedOf, AllEnded};
+
+// The `n` cells from `a` on: what there is of them.
+pub fn part(s: &[u32], a: usize, n: usize) -> &[u32]
+    ensures { λ r. ⌜ now r ≡ partOf (now (s .entry)) a n ⌝ }
+{
+    let m = s.len();
+    if m < a {
+        return &s[m..m];
+    }
+    if m - a < n {
+        return &s[a..m];
+    }
+    let e = a + n;
+    &s[a..e]
+}
+
+// The value of the expression whose parts end before `end`, for the task: `x` are the parts, `f` is what load worked out, `s` the state.
+pub fn value_at(x: &[u32], b: &[u8], f: &[u32], s: &[u32], task: usize, end: usize) -> Value
+    ensures { λ r. ⌜ Published (table (now (x .entry)) (now (b .entry))) (shownBy (now (f .entry)) (now (s .entry))) task end depth-limit r ⌝ }
+{
+    let names = part(f, 1256, parts::number(f, 1));
+    let tags = part(s, 776, 1088);
+    let nums = part(s, 1864, 1088);
+    let tasks = part(f, 1192, parts::number(f, 0));
+    let states = part(s, 40, 32);
+    evaluator::value_of(
+        x,
+        b,
+        names,
+        tags,
+        nums,
+        tasks,
+        states,
+        task,
+        end,
+        Expression::DEPTH,
+    )
+}
+
+fn is_true(s: Scalar) -> bool
+    ensures { λ r. ⌜ r ≡ trueC s ⌝ }
+{
+    match s {
+        Scalar::Unknown => false,
+        Scalar::Truth(b) => b,
+        Scalar::Int(_) => false,
+        Scalar::Real(_) => false,
+        Scalar::Text(_) => false,
+    }
+}
+
+// Whether it is true.
+fn truth_of(x: &[u32], b: &[u8], f: &[u32], s: &[u32], task: usize, end: usize) -> bool
+    ensures { λ r. ⌜ TruthOf (table (now (x .entry)) (now (b .entry))) (shownBy (now (f .entry)) (now (s .entry))) task end r ⌝ }
+{
+    let v = value_at(x, b, f, s, task, end);
+    is_true(values::scalar_of(v))
+}
+
+// Whether it is true, if there is one.
+fn allowed(x: &[u32], b: &[u8], f: &[u32], s: &[u32], task: usize, end: usize) -> bool
+    ensures { λ r. ⌜ AllowedOf (table (now (x .entry)) (now (b .entry))) (shownBy (now (f .entry)) (now (s .entry))) task end r ⌝ }
+{
+    if end == 0 {
+        return true;
+    }
+    truth_of(x, b, f, s, task, end)
+}
+
+// Whether there is one and it is true.
+fn ended(x: &[u32], b: &[u8], f: &[u32], s: &[u32], task: usize, end: usize) -> bool
+    ensures { λ r. ⌜ EndedOf (table (now (x .entry)) (now (b .entry))) (shownBy (now (f .entry)) (now (s .entry))) task end r ⌝ }
+{
+    if end == 0 {
+        return false;
+    }
+    truth_of(x, b, f, s, task, end)
+}
+
+// `allowed` of every task, where `ends` is the column of `f` that says where the expressions end.
+pub fn all_allowed(x: &[u32], b: &[u8], f: &[u32], s: &[u32], ends: usize) -> [bool; 32]
+    ensures { λ r. ⌜ AllAllowed (table (now (x .entry)) (now (b .entry))) (shownBy (now (f .entry)) (now (s .entry))) (now (f .entry)) ends r ⌝ }
+{
+    let mut m = [false; 32];
+    let mut t: usize = 0;
+    while t < 32 {
+        let end = state::cell(f, ends, t);
+        let v = allowed(x, b, f, s, t, end);
+        m[t] = v;
+        t += 1;
+    }
+    m
+}
+
+// `ended` of every task.
+pub fn all_ended(x: &[u32], b: &[u8], f: &[u32], s: &[u32], ends: usize) -> [bool; 32]
+    ensures { λ r. ⌜ AllEnded (table (now (x .entry)) (now (b .entry))) (shownBy (now (f .entry)) (now (s .entry))) (now (f .entry)) ends r ⌝ }
+{
+    let mut m = [false; 32];
+    let mut t: usize = 0;
+    while t < 32 {
+        let end = state::cell(f, ends, t);
+        let v = ended(x, b, f, s, t, end);
+        m[t] = v;
+        t += 1;
+    }
+    m
+}

@@ -1,0 +1,5 @@
+pub mod Booleans
+pub mod Twins
+pub mod Antecedents
+pub mod Worked
+pub mod Shows
