@@ -42,7 +42,7 @@ fn read_text(text: &mut [u8], n: usize) -> Next
 }
 
 // Reads the next text to the front of the buffer.
-pub fn next(text: &mut [u8]) -> Next
+pub fn next_text(text: &mut [u8]) -> Next
     ensures { λ r. ⌜ Held (length (now (text .exit))) r ⌝ }
 {
     let mut head = [0u8; 4];

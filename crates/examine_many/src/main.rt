@@ -27,7 +27,7 @@ fn answer_first(text: &[u8], n: usize) -> bool {
 // Reads one text and answers it, where there is one.
 fn next() -> bool {
     let mut text = io::large_buffer();
-    match batch::next(&mut text) {
+    match batch::next_text(&mut text) {
         Next::Text(n) => answer_first(&text, n),
         Next::Nothing => false,
     }
