@@ -15,7 +15,6 @@ use Rattle.paper_expressions.specs.Laws.Tests.{contra, and-l, and-r, two}
 use Rattle.paper_grammar.specs.Laws.Ll.{Sym, T, N, Alt, _⇒_, Next, stop, go, find, choose, adv, blank}
 use Rattle.paper_grammar.specs.Laws.Form.{G}
 use Rattle.grammar.specs.Tables.{symOf, side, altOf, sideOf, choiceOf}
-use Rattle.grammar.specs.Labels.{mark, label}
 use Rattle.grammar.specs.Machine.{passed, past}
 use Rattle.grammar.proofs.TableLaws.{is-token, is-symbol, side-is, choice-none, choice-some}
 
@@ -73,7 +72,7 @@ module _ (st : List ℕ) (at : ℕ) where
   pub past-end : (k : ℕ) → length st ≤ at → syms at st ≡ past k (syms at st)
   past-end k h = ended h ∙ sym (ap (past k) (ended h))
 
--- what is passed over makes no difference to the turn and to the label
+-- what is passed over makes no difference to the turn
 adv-past : (k : ℕ) (q : List (Sym ℕ)) → adv G q k ≡ adv G (past k q) k
 adv-past k [] = refl
 adv-past k (T j ∷ q) = refl
@@ -86,16 +85,6 @@ adv-past k (N x ∷ q) = ⊎-elim
     ∙ adv-past k q
     ∙ sym (ap (λ (b : Bool). adv G (cond b (past k q) (N x ∷ q)) k) t))
     (λ (t : passed k (N x) ≡ false). sym (ap (λ (b : Bool). adv G (cond b (past k q) (N x ∷ q)) k) t))
-    (two (passed k (N x)))
-
-label-past : (k : ℕ) (q : List (Sym ℕ)) → label q k ≡ label (past k q) k
-label-past k [] = refl
-label-past k (T j ∷ q) = refl
-label-past k (N x ∷ q) = ⊎-elim
-    (λ (t : passed k (N x) ≡ true).
-    let n = choice-none x k (eqb-true _ 0 (and-l (eqb (choiceOf x k) 0) (G .empty x) t)) in
-    ap (λ (o : Option (List (Sym ℕ))). mark o x (label q k)) n ∙ label-past k q ∙ sym (ap (λ (b : Bool). label (cond b (past k q) (N x ∷ q)) k) t))
-    (λ (t : passed k (N x) ≡ false). sym (ap (λ (b : Bool). label (cond b (past k q) (N x ∷ q)) k) t))
     (two (passed k (N x)))
 
 -- what is not passed over stays
@@ -115,9 +104,6 @@ module _ (st : List ℕ) (top at k : ℕ) (p : syms at st ≡ past k (syms top s
   turn : adv G (syms top st) k ≡ adv G (syms at st) k
   turn = adv-past k (syms top st) ∙ ap (λ (q : List (Sym ℕ)). adv G q k) (sym p)
 
-  marked : label (syms top st) k ≡ label (syms at st) k
-  marked = label-past k (syms top st) ∙ ap (λ (q : List (Sym ℕ)). label q k) (sym p)
-
   pub none-left : length st ≤ at → adv G (syms top st) k ≡ stop
   none-left h = turn ∙ ap (λ (q : List (Sym ℕ)). adv G q k) (ended st at h)
 
@@ -125,9 +111,6 @@ module _ (st : List ℕ) (top at k : ℕ) (p : syms at st ≡ past k (syms top s
     module _ (l : getD st at 0 < 128) where
       pub taken : getD st at 0 ≡ k → adv G (syms top st) k ≡ go (syms (at + 1) st)
       taken e = turn ∙ ap (λ (q : List (Sym ℕ)). adv G q k) (top-token st at h l) ∙ ap (λ (b : Bool). cond b (go (syms (at + 1) st)) stop) (eq-eqb k (getD st at 0) (sym e))
-
-      pub unlabelled : 0 ≡ label (syms top st) k
-      unlabelled = sym (marked ∙ ap (λ (q : List (Sym ℕ)). label q k) (top-token st at h l))
 
       pub another : (getD st at 0 ≡ k → ⊥) → adv G (syms top st) k ≡ stop
       another e = turn ∙ ap (λ (q : List (Sym ℕ)). adv G q k) (top-token st at h l) ∙ ap (λ (b : Bool). cond b (go (syms (at + 1) st)) stop) (ne-eqb k (getD st at 0) (λ z. e (sym z)))
@@ -155,9 +138,6 @@ module _ (st : List ℕ) (top at k : ℕ) (p : syms at st ≡ past k (syms top s
             turn ∙ ap (λ (q : List (Sym ℕ)). adv G q k) (top-symbol st at h x l e)
             ∙ ap (λ (o : Option (List (Sym ℕ))). choose o (syms (at + 1) st) (cond (G .empty x) (adv G (syms (at + 1) st) k) stop)) found
             ∙ ap go (sym (ap (map symOf) d ∙ map-append (sideOf (a - 1)) (drop (at + 1) st) ∙ ap (λ (q : List (Sym ℕ)). q ++ syms (at + 1) st) (side-is (a - 1))))
-
-        pub labelled : suc x ≡ label (syms top st) k
-        labelled = sym (marked ∙ ap (λ (q : List (Sym ℕ)). label q k) (top-symbol st at h x l e) ∙ ap (λ (o : Option (List (Sym ℕ))). mark o x (label (syms (at + 1) st) k)) found)
 
 -- one byte more on the stack
 push-one : (p st r : List ℕ) (at j v : ℕ) → j < length p → at < length st → drop (suc at) st ≡ drop (suc j) p ++ r → v ≡ getD p j 0 → drop at (set st at v) ≡ drop j p ++ r

@@ -15,7 +15,7 @@ use borrow.Author.Tests.{eq-eqb, ne-eqb, ltb-true, ltb-false, leb-true, le-ltb, 
 use Rattle.paper_expressions.specs.Laws.Tests.{and-l, and-r, two, every}
 use Rattle.paper_grammar.specs.Laws.Ll.{Sym, T, N, Alt, _⇒_, find}
 use Rattle.paper_grammar.specs.Laws.Form.{rows, blanks, G}
-use Rattle.grammar.specs.Tables.{code, symOf, cells, record-of, side, first, joined, alternatives, offsets, alternatives-table, rows-table, empty-table, altOf, byteOf, sideOf, seekIn, choiceOf}
+use Rattle.grammar.specs.Tables.{code, symOf, cells, record-of, side, first, joined, alternatives, offsets, alternatives-table, rows-table, empty-table, table, altOf, byteOf, sideOf, seekIn, choiceOf}
 
 -- the ten bytes of each alternative
 
@@ -47,7 +47,7 @@ pub how-many : length alternatives ≡ 210
 unfolding rows alternatives
 how-many = refl
 
-pub byte-at : (a j : ℕ) → a < 210 → j < 10 → getD alternatives-table (a * 10 + j) 0 ≡ byteOf a j
+byte-at : (a j : ℕ) → a < 210 → j < 10 → getD alternatives-table (a * 10 + j) 0 ≡ byteOf a j
 unfolding alternatives-table
 byte-at a j h k = table-at alternatives a j (a * 10 + j) refl (subst (λ (n : ℕ). a < n) (sym how-many) h) k
 
@@ -242,7 +242,7 @@ flag-at (true ∷ l) zero h = refl
 flag-at (false ∷ l) zero h = refl
 flag-at (b ∷ l) (suc x) h = flag-at l x (le-of-suc-le-suc h)
 
-pub empty-at : (x : ℕ) → x < 48 → eqb (getD empty-table x 0) 49 ≡ G .empty x
+empty-at : (x : ℕ) → x < 48 → eqb (getD empty-table x 0) 49 ≡ G .empty x
 unfolding empty-table
 empty-at x h = flag-at blanks x (subst (λ (n : ℕ). x < n) (sym blanks-many) h)
 
@@ -266,3 +266,34 @@ module _ (k a to : ℕ) where
       let e = length-take to alternatives in
       let l : length (take to alternatives) ≤ a = omega (arith, min-le-left to (length alternatives)) in
       ap (seekIn k a) (drop-of-length-le (take to alternatives) l)
+
+-- the one table has each of the three
+
+rows-long : length rows-table ≡ 49
+unfolding rows rows-table
+rows-long = refl
+
+empty-long : length empty-table ≡ 48
+unfolding blanks empty-table
+empty-long = refl
+
+pub row-at : (x : ℕ) → x < 49 → getD table x 0 ≡ getD rows-table x 0
+unfolding table
+row-at x h = List·getD-append rows-table (empty-table ++ alternatives-table) 0 x (subst (λ (n : ℕ). x < n) (sym rows-long) h)
+
+-- behind the rows
+behind : (n : ℕ) → getD table (49 + n) 0 ≡ getD (empty-table ++ alternatives-table) n 0
+unfolding table
+behind n = ap (λ (m : ℕ). getD (rows-table ++ (empty-table ++ alternatives-table)) (m + n) 0) (sym rows-long) ∙ getD-append-add rows-table (empty-table ++ alternatives-table) n 0
+
+pub blank-at : (x : ℕ) → x < 48 → eqb (getD table (49 + x) 0) 49 ≡ G .empty x
+blank-at x h =
+    ap (λ (n : ℕ). eqb n 49) (behind x ∙ List·getD-append empty-table alternatives-table 0 x (subst (λ (n : ℕ). x < n) (sym empty-long) h))
+    ∙ empty-at x h
+
+pub alternative-at : (a j : ℕ) → a < 210 → j < 10 → getD table (97 + a * 10 + j) 0 ≡ byteOf a j
+alternative-at a j h k =
+    let m : 97 + a * 10 + j ≡ 49 + (48 + (a * 10 + j)) = omega arith in
+    ap (λ (n : ℕ). getD table n 0) m ∙ behind (48 + (a * 10 + j))
+    ∙ ap (λ (n : ℕ). getD (empty-table ++ alternatives-table) (n + (a * 10 + j)) 0) (sym empty-long)
+    ∙ getD-append-add empty-table alternatives-table (a * 10 + j) 0 ∙ byte-at a j h k

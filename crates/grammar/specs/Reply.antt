@@ -1,20 +1,15 @@
 -- What the reader answers, by the definitions alone: accepted are the sentences, refused is the first token that no sentence can have there. Definitions only.
 use Prim.Native.Nat.{ℕ, _≤_, _<_}
-use mathlib.Core.Bool.{cond}
-use mathlib.Core.List.{List, [], _∷_}
-use lib.Dec.{leb}
+use mathlib.Core.List.{List}
 use lib.ListN.{length}
 use Rattle.paper_guideline.specs.Limits.{token-limit}
 use Rattle.paper_grammar.specs.Nonterminals.{⟨process⟩, ⟨expression⟩}
 use Rattle.paper_grammar.specs.Sentence.{Sentence-of, First-bad}
-use Rattle.paper_grammar.specs.Laws.Ll.{N}
 use Rattle.paper_grammar.specs.Laws.Form.{‹Process›, ‹Expr›}
 use Rattle.grammar.specs.declared.Start.{Start}
 use Rattle.grammar.specs.declared.Start.the-variants.{Process, Expression}
 use Rattle.grammar.specs.declared.Answer.{Answer}
 use Rattle.grammar.specs.declared.Answer.the-variants.{Accepted, Refused, Unread}
-use Rattle.grammar.specs.Labels.{labels}
-use Rattle.grammar.specs.Machine.{Cells}
 
 -- the start symbol in 3.2, and in Form
 abbrev pub symbol-of : Start → ℕ
@@ -29,12 +24,3 @@ abbrev pub Verdict : Start → List ℕ → Answer → Type 0
 Verdict s w Accepted = (length w ≤ token-limit) × Sentence-of (symbol-of s) w
 Verdict s w (Refused i) = (length w ≤ token-limit) × First-bad (symbol-of s) w i
 Verdict s w Unread = token-limit < length w
-
--- the labels of the tokens that are taken: none where there are too many tokens to look at
-abbrev pub labels-of : Start → List ℕ → List ℕ
-labels-of s w = cond (leb (length w) token-limit) (labels (N (form-of s) ∷ []) w) []
-
--- the answer r to the tokens w, and the labels' cells at the end
-pub record Reply (s : Start) (w out : List ℕ) (r : Answer) : Type 0 where
-  pub verdict : Verdict s w r
-  pub cells : Cells out (labels-of s w)

@@ -54,7 +54,11 @@ rows-table = offsets 0 rows
 unfoldable pub empty-table : List ℕ
 empty-table = map (λ (b : Bool). cond b 49 48) blanks
 
--- what they are read for
+-- one behind the other
+unfoldable pub table : List ℕ
+table = rows-table ++ (empty-table ++ alternatives-table)
+
+-- what it is read for
 abbrev pub altOf : ℕ → Alt ℕ
 altOf a = getD alternatives a (0 ⇒ [])
 

@@ -2,14 +2,16 @@
 // It goes by one token at a time, with a stack of the symbols that are still to come; the stack grows down from the array's end.
 ghost use mathlib.Core.Path.{_≡_};
 ghost use mathlib.Core.List.{map, _++_};
-ghost use Prim.Native.Nat.{ℕ, _+_, _-_, _≤_, _<_};
-ghost use lib.ListN.{length, getD, drop, set};
+ghost use Prim.Native.Nat.{_+_, _≤_, _<_};
+ghost use lib.ListN.{length, drop};
 ghost use lib.Seq.{slice};
 ghost use Rattle.paper_grammar.specs.Laws.Ll.{Sym, blank};
 ghost use Rattle.paper_grammar.specs.Laws.Form.{G};
-ghost use Rattle.grammar.specs.Tables.{symOf, alternatives, byteOf, sideOf, seekIn, choiceOf};
-ghost use Rattle.grammar.specs.Machine.{passed, past, Stepped, Walked};
-ghost use Rattle.grammar.specs.Reply.{form-of, Reply};
+ghost use Rattle.paper_guideline.specs.Limits.{token-limit};
+ghost use Rattle.grammar.specs.Tables.{table, symOf, alternatives, byteOf, sideOf, seekIn, choiceOf};
+ghost use Rattle.grammar.specs.Machine.{passed, past, Stepped, Ends};
+ghost use Rattle.grammar.specs.Reply.{form-of, Verdict};
+use limits::TokenList;
 
 mod tables;
 
@@ -27,9 +29,9 @@ pub enum Answer {
     Unread,
 }
 
-// A token is taken: the stack's new top, and the token's label. Or it cannot stand there.
+// A token is taken: the stack's new top. Or it cannot stand there.
 enum Turn {
-    On(usize, u8),
+    On(usize),
     Stuck,
 }
 
@@ -40,21 +42,23 @@ fn wide(b: u8) -> usize
 }
 
 // The byte j of the alternative a.
-fn byte(a: usize, j: usize) -> u8
+fn byte(t: &[u8; 2197], a: usize, j: usize) -> u8
     requires { ⌜ (a < 210) × (j < 10) ⌝ }
+    requires { ⌜ now t ≡ table ⌝ }
     ensures { λ r. ⌜ r ≡ byteOf a j ⌝ }
 {
-    tables::ALTERNATIVES[a * 10 + j]
+    t[97 + a * 10 + j]
 }
 
 // The first of the alternatives from `from` up to `to` that begins with k, counted from 1; 0 where none does.
-fn seek(k: u8, from: usize, to: usize) -> usize
+fn seek(t: &[u8; 2197], k: u8, from: usize, to: usize) -> usize
     requires { ⌜ (from ≤ to) × (to ≤ 210) ⌝ }
+    requires { ⌜ now t ≡ table ⌝ }
     ensures { λ r. ⌜ r ≡ seekIn k from (slice from to alternatives) ⌝ }
 {
     let mut a = from;
     while a < to {
-        if byte(a, 0) == k {
+        if byte(t, a, 0) == k {
             return a + 1;
         }
         a += 1;
@@ -63,49 +67,49 @@ fn seek(k: u8, from: usize, to: usize) -> usize
 }
 
 // The alternative of the symbol x that begins with k, counted over all from 1; 0 where there is none.
-fn choice(x: usize, k: u8) -> usize
+fn choice(t: &[u8; 2197], x: usize, k: u8) -> usize
+    requires { ⌜ now t ≡ table ⌝ }
     ensures { λ r. ⌜ r ≡ choiceOf x k ⌝ }
 {
     if x < 48 {
-        let from = wide(tables::ROWS[x]);
-        let to = wide(tables::ROWS[x + 1]);
-        return seek(k, from, to);
+        let from = wide(t[x]);
+        let to = wide(t[x + 1]);
+        return seek(t, k, from, to);
     }
     0
 }
 
-fn may_be_empty(x: usize) -> bool
+fn may_be_empty(t: &[u8; 2197], x: usize) -> bool
+    requires { ⌜ now t ≡ table ⌝ }
     ensures { λ r. ⌜ r ≡ G .empty x ⌝ }
 {
-    if x < 48 {
-        tables::EMPTY[x] == b'1'
-    } else {
-        true
-    }
+    if x < 48 { t[49 + x] == b'1' } else { true }
 }
 
 // Whether c is passed over at k: a symbol that may be empty, of which no alternative begins with k.
-fn passes(c: u8, k: u8) -> bool
+fn passes(t: &[u8; 2197], c: u8, k: u8) -> bool
+    requires { ⌜ now t ≡ table ⌝ }
     ensures { λ r. ⌜ r ≡ passed k (symOf c) ⌝ }
 {
     if c < 128 {
         return false;
     }
     let x = wide(c) - 128;
-    if choice(x, k) == 0 {
-        return may_be_empty(x);
+    if choice(t, x, k) == 0 {
+        return may_be_empty(t, x);
     }
     false
 }
 
 // The top once those are off the stack that are passed over at k.
-fn skip(stack: &[u8; 32768], top: usize, k: u8) -> usize
+fn skip(t: &[u8; 2197], stack: &[u8; 32768], top: usize, k: u8) -> usize
     requires { ⌜ (length (now stack) ≡ 32768) × (top ≤ 32768) ⌝ }
+    requires { ⌜ now t ≡ table ⌝ }
     ensures { λ r. ⌜ ((top ≤ r) × (r ≤ 32768)) × (map symOf (drop r (now (stack .entry))) ≡ past k (map symOf (drop top (now (stack .entry))))) ⌝ }
 {
     let mut at = top;
     while at < 32768 {
-        if !passes(stack[at], k) {
+        if !passes(t, stack[at], k) {
             return at;
         }
         at += 1;
@@ -114,8 +118,9 @@ fn skip(stack: &[u8; 32768], top: usize, k: u8) -> usize
 }
 
 // Whether all that is still to come may be empty.
-fn all_may_be_empty(stack: &[u8; 32768], top: usize) -> bool
+fn all_may_be_empty(t: &[u8; 2197], stack: &[u8; 32768], top: usize) -> bool
     requires { ⌜ length (now stack) ≡ 32768 ⌝ }
+    requires { ⌜ now t ≡ table ⌝ }
     ensures { λ r. ⌜ r ≡ blank G (map symOf (drop top (now (stack .entry)))) ⌝ }
 {
     let mut at = top;
@@ -124,7 +129,7 @@ fn all_may_be_empty(stack: &[u8; 32768], top: usize) -> bool
         if c < 128 {
             return false;
         }
-        if !may_be_empty(wide(c) - 128) {
+        if !may_be_empty(t, wide(c) - 128) {
             return false;
         }
         at += 1;
@@ -133,81 +138,61 @@ fn all_may_be_empty(stack: &[u8; 32768], top: usize) -> bool
 }
 
 // Puts on the stack what follows the first token of the alternative a.
-fn push(stack: &mut [u8; 32768], top: usize, a: usize) -> usize
+fn push(t: &[u8; 2197], stack: &mut [u8; 32768], top: usize, a: usize) -> usize
     requires { ⌜ (length (now stack) ≡ 32768) × (a < 210) × (8 ≤ top) × (top ≤ 32768) ⌝ }
+    requires { ⌜ now t ≡ table ⌝ }
     ensures { λ r. ⌜ (length (now (stack .exit)) ≡ 32768) × (top ≤ r + 8) × (r ≤ top) × (drop r (now (stack .exit)) ≡ sideOf a ++ drop top (now (stack .entry))) ⌝ }
 {
     let mut at = top;
-    let mut j = wide(byte(a, 1));
+    let mut j = wide(byte(t, a, 1));
     while 0 < j {
         at -= 1;
-        stack[at] = byte(a, j + 1);
+        stack[at] = byte(t, a, j + 1);
         j -= 1;
     }
     at
 }
 
 // Takes the token k off what is still to come.
-fn step(stack: &mut [u8; 32768], top: usize, k: u8) -> Turn
+fn step(t: &[u8; 2197], stack: &mut [u8; 32768], top: usize, k: u8) -> Turn
     requires { ⌜ (length (now stack) ≡ 32768) × (8 ≤ top) × (top ≤ 32768) ⌝ }
+    requires { ⌜ now t ≡ table ⌝ }
     ensures { λ r. ⌜ Stepped (drop top (now (stack .entry))) k top (now (stack .exit)) r ⌝ }
 {
-    let at = skip(stack, top, k);
+    let at = skip(t, stack, top, k);
     if at == 32768 {
         return Turn::Stuck;
     }
     let c = stack[at];
     if c < 128 {
         if c == k {
-            return Turn::On(at + 1, 0);
+            return Turn::On(at + 1);
         }
         return Turn::Stuck;
     }
-    let a = choice(wide(c) - 128, k);
+    let a = choice(t, wide(c) - 128, k);
     if a == 0 {
         return Turn::Stuck;
     }
-    let t = push(stack, at + 1, a - 1);
-    Turn::On(t, c - 127)
+    Turn::On(push(t, stack, at + 1, a - 1))
 }
 
-// All zero.
-fn clear(labels: &mut [u8])
-    ensures { λ r. ⌜ ((k : ℕ) → getD (now (labels .exit)) k 0 ≡ 0) ⌝ }
-{
-    let mut i = 0;
-    while i < labels.len() {
-        labels[i] = 0;
-        i += 1;
-    }
-}
-
-// Writes a label where there is a cell for it.
-fn put(labels: &mut [u8], i: usize, l: u8)
-    ensures { λ r. ⌜ now (labels .exit) ≡ set (now (labels .entry)) i l ⌝ }
-{
-    if labels.len() <= i {
-        return;
-    }
-    labels[i] = l;
-}
-
-// Takes the tokens one after the other, and labels each that it takes.
-fn walk(kinds: &[u8], stack: &mut [u8; 32768], labels: &mut [u8]) -> Answer
-    requires { ⌜ (length (now stack) ≡ 32768) × (length (now kinds) ≤ 4096) × ((k : ℕ) → getD (now labels) k 0 ≡ 0) ⌝ }
-    ensures { λ r. ⌜ Walked (map symOf (drop 32767 (now (stack .entry)))) (now (kinds .entry)) (now (labels .exit)) r ⌝ }
+// Takes the tokens one after the other.
+fn walk(t: &[u8; 2197], kinds: &[u8], stack: &mut [u8; 32768]) -> Answer
+    requires { ⌜ (length (now stack) ≡ 32768) × (length (now kinds) ≤ token-limit) ⌝ }
+    requires { ⌜ now t ≡ table ⌝ }
+    ensures { λ r. ⌜ Ends (map symOf (drop 32767 (now (stack .entry)))) (now (kinds .entry)) r ⌝ }
 {
     let mut top = 32767;
     let mut i = 0;
     while i < kinds.len() {
-        let Turn::On(t, l) = step(stack, top, kinds[i]) else {
+        let Turn::On(next) = step(t, stack, top, kinds[i]) else {
             return Answer::Refused(i);
         };
-        put(labels, i, l);
-        top = t;
+        top = next;
         i += 1;
     }
-    if all_may_be_empty(stack, top) {
+    if all_may_be_empty(t, stack, top) {
         return Answer::Accepted;
     }
     Answer::Refused(i)
@@ -223,17 +208,15 @@ fn code(start: Start) -> u8
     }
 }
 
-// Reads the tokens as a sentence from the start symbol; each token that is taken gets its label, as far as there are cells, and the cells beyond are zero.
-// A token is a number as the definitions' Tokens has it: one over 100 stands in no sentence.
-// A label is 0 where the token stands inside an alternative, and otherwise one more than the symbol of which it begins one.
-pub fn read(kinds: &[u8], start: Start, labels: &mut [u8]) -> Answer
-    ensures { λ r. ⌜ Reply start (now (kinds .entry)) (now (labels .exit)) r ⌝ }
+// Reads the tokens as a sentence from the start symbol. A token is a number as the definitions' Tokens has it: one over 100 stands in no sentence.
+pub fn read(kinds: &[u8], start: Start) -> Answer
+    ensures { λ r. ⌜ Verdict start (now (kinds .entry)) r ⌝ }
 {
-    clear(labels);
-    if 4096 < kinds.len() {
+    if TokenList::LIMIT < kinds.len() {
         return Answer::Unread;
     }
+    let t = tables::table();
     let mut stack = [0u8; 32768];
     stack[32767] = code(start);
-    walk(kinds, &mut stack, labels)
+    walk(&t, kinds, &mut stack)
 }

@@ -1,8 +1,14 @@
 // The grammar of the definitions' Form, as bytes. A token stands as its number, one of the 48 symbols as 128 more than its own.
+ghost use mathlib.Core.Path.{_≡_};
+ghost use Rattle.grammar.specs.Tables.{table as defined};
 
+// For each symbol the number of its first alternative, counted over all from 0, and behind them how many there are: 49 bytes.
+// For each symbol whether it may be empty: 48 bytes.
 // The 210 alternatives, ten bytes each: the first token, how many symbols follow it, those symbols, and blanks.
 // Each symbol's alternatives start a line; their further lines stand to the right.
-pub const ALTERNATIVES: [u8; 2100] = *b"\
+const TABLE: [u8; 2197] = *b"\
+    \x00\x02\x05\x0b\x0c\x0d\x0e\x0f\x10\x11\x13\x14\x1a#+2<>@IJORU\x5c_`adefghoptwx{\x7f\x80\x8c\xa1\xa3\xaf\xc3\xc5\xd1\xd2\
+    011000000101111100100110011011011100100101101111\
     \x18\x08H\x81\x19\x18J1\x83\x821\x02\x83\x82      \
     _\x02I\x81      `\x02I\x81      a\x02I\x81      \
     1\x02\x83\x82      \x14\x02\x84\x82      \x01\x02\x85\x82      \x1a\x02\x86\x82      ?\x02\x87\x82      \
@@ -73,9 +79,9 @@ pub const ALTERNATIVES: [u8; 2100] = *b"\
         '\x07L\xa5K\xa5M\xa9\xaf (\x07L\xa5K\xa5M\xa9\xaf \
     K\x02\xa8\xaf      ";
 
-// For each symbol the number of its first alternative, counted over all from 0; and last how many there are.
-pub const ROWS: [u8; 49] =
-    *b"\x00\x02\x05\x0b\x0c\x0d\x0e\x0f\x10\x11\x13\x14\x1a#+2<>@IJORU\x5c_`adefghoptwx{\x7f\x80\x8c\xa1\xa3\xaf\xc3\xc5\xd1\xd2";
-
-// For each symbol whether it may be empty.
-pub const EMPTY: [u8; 48] = *b"011000000101111100100110011011011100100101101111";
+// All of it, made once for a text and handed on.
+pub fn table() -> [u8; 2197]
+    ensures { λ r. ⌜ r ≡ defined ⌝ }
+{
+    TABLE
+}

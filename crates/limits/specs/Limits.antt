@@ -1,5 +1,14 @@
--- The limits of running (document 01, How much fits), each named once; those of reading and of values are in paper_reading and paper_expressions. Definitions only.
-use Prim.Native.Nat.{ℕ}
+-- The limits of running (document 01, How much fits), each named once; those of reading and of values are in paper_guideline and paper_expressions. Definitions only.
+use Prim.Native.Nat.{ℕ, _*_, _/_}
+use Rattle.paper_guideline.specs.Limits.{token-limit}
+
+-- cells that the rows of a text can take: eight for a row, which has three tokens at least
+abbrev pub row-cells : ℕ
+row-cells = token-limit / 3 * 8
+
+-- bytes that the small program's answer to a line can take
+abbrev pub answer-limit : ℕ
+answer-limit = 1_024
 
 -- "cycles in one run 0 to 256"
 abbrev pub cycle-limit : ℕ

@@ -1,7 +1,7 @@
 // Every limit of reading and of the engine, named once, on the type that it limits; and tied once, by the function beside it, to the definitions.
 // The limits of values stand on the types of values: integers and reals on numbers::Num, texts on values::Handle, lists on values::List.
 ghost use mathlib.Core.Path.{_≡_};
-ghost use Rattle.limits.specs.Limits.{cycle-limit, time-limit, wait-side, change-rows};
+ghost use Rattle.limits.specs.Limits.{row-cells, answer-limit, cycle-limit, time-limit, wait-side, change-rows};
 ghost use Rattle.paper_guideline.specs.Limits.{text-limit, token-limit, bracket-limit, task-limit, data-item-limit};
 ghost use Rattle.paper_guideline.specs.Limits.{part-limit, depth-limit, assignment-limit, source-limit, decimal-limit};
 
@@ -67,6 +67,19 @@ impl DataItems {
         ensures { λ r. ⌜ r ≡ data-item-limit ⌝ }
     {
         DataItems::LIMIT
+    }
+}
+
+pub struct Rows;
+
+impl Rows {
+    // cells of the row table: eight for each row, of which every three tokens make at most one
+    pub const CELLS: usize = TokenList::LIMIT / 3 * 8;
+
+    pub fn cells() -> usize
+        ensures { λ r. ⌜ r ≡ row-cells ⌝ }
+    {
+        Rows::CELLS
     }
 }
 
@@ -184,5 +197,18 @@ impl Changes {
         ensures { λ r. ⌜ r ≡ change-rows ⌝ }
     {
         Changes::ROWS
+    }
+}
+
+pub struct Answer;
+
+impl Answer {
+    // bytes of the small program's answer to a line
+    pub const LIMIT: usize = 1_024;
+
+    pub fn bytes() -> usize
+        ensures { λ r. ⌜ r ≡ answer-limit ⌝ }
+    {
+        Answer::LIMIT
     }
 }

@@ -5,7 +5,7 @@ ghost use mathlib.Core.Bool.{true};
 ghost use Prim.Native.Nat.{ℕ, _+_, _≤_, _<_};
 ghost use lib.ListN.{length};
 ghost use Rattle.matches.specs.Kinds.{fineOf};
-ghost use Rattle.matches.specs.Machine.{nextOf, accOf, Takes};
+ghost use Rattle.matches.specs.Machine.{accepts as acceptsOf, nextOf, accOf, Takes};
 ghost use Rattle.matches.specs.Walk.{betterOf, beginOf, Settled, Closes, Marks};
 
 pub mod table;
@@ -48,11 +48,11 @@ pub struct Best {
 }
 
 // A longer match wins; on a tie the one that is there.
-fn better(best: Best, q: usize, r: usize, n: usize) -> Best
-    requires { ⌜ q < 35 ⌝ }
+fn better(accepts: &[u8; 35], best: Best, q: usize, r: usize, n: usize) -> Best
+    requires { ⌜ (now accepts ≡ acceptsOf) × (q < 35) ⌝ }
     ensures { λ x. ⌜ x ≡ betterOf best q r n ⌝ }
 {
-    if table::accepting(q) {
+    if table::accepting(accepts, q) {
         if best.len < n {
             return Best {
                 len: n,
@@ -131,6 +131,8 @@ fn walk(text: &[u8], at: usize, shut: bool) -> Best
     requires { ⌜ (at ≤ length (now text)) × (shut ≡ true → (m : ℕ) → ¬ Takes (now text) at 6 m) ⌝ }
     ensures { λ x. ⌜ Settled (now (text .entry)) at x ⌝ }
 {
+    let delta = table::delta();
+    let accepts = table::accepts();
     let mut states = begin(shut);
     let mut best = Best {
         len: 0,
@@ -150,9 +152,9 @@ fn walk(text: &[u8], at: usize, shut: bool) -> Best
                 }
                 break 'rules;
             }
-            let q = table::next(states[r], k);
+            let q = table::next(&delta, states[r], k);
             states[r] = q;
-            best = better(best, q, r, n);
+            best = better(&accepts, best, q, r, n);
             alive += q;
             r += 1;
         }

@@ -1,7 +1,7 @@
 // The machine of the rules: a row for each state, a column for each kind of byte, a state written as its number counted from '0'.
 ghost use mathlib.Core.Path.{_≡_};
 ghost use Prim.Native.Nat.{_<_};
-ghost use Rattle.matches.specs.Machine.{nextOf, accOf, plainOf};
+ghost use Rattle.matches.specs.Machine.{delta as deltaOf, accepts as acceptsOf, nextOf, accOf, plainOf};
 
 const KINDS: usize = 20;
 
@@ -54,20 +54,33 @@ fn wide(b: u8) -> usize
     b as usize
 }
 
+// Both tables are made once for a walk, and handed on.
+pub fn delta() -> [u8; 700]
+    ensures { λ r. ⌜ r ≡ deltaOf ⌝ }
+{
+    DELTA
+}
+
+pub fn accepts() -> [u8; 35]
+    ensures { λ r. ⌜ r ≡ acceptsOf ⌝ }
+{
+    ACCEPTS
+}
+
 // The state after a byte of a kind; 0 where the rule cannot take it.
-pub fn next(q: usize, k: usize) -> usize
-    requires { ⌜ (q < 35) × (k < 20) ⌝ }
+pub fn next(delta: &[u8; 700], q: usize, k: usize) -> usize
+    requires { ⌜ (now delta ≡ deltaOf) × (q < 35) × (k < 20) ⌝ }
     ensures { λ r. ⌜ r ≡ nextOf q k ⌝ }
 {
-    wide(DELTA[q * KINDS + k]) - 48
+    wide(delta[q * KINDS + k]) - 48
 }
 
 // The rule that stands at q has a whole match behind it.
-pub fn accepting(q: usize) -> bool
-    requires { ⌜ q < 35 ⌝ }
+pub fn accepting(accepts: &[u8; 35], q: usize) -> bool
+    requires { ⌜ (now accepts ≡ acceptsOf) × (q < 35) ⌝ }
     ensures { λ r. ⌜ r ≡ accOf q ⌝ }
 {
-    ACCEPTS[q] == b'1'
+    accepts[q] == b'1'
 }
 
 // The float that stands at q has no exponent.

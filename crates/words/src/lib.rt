@@ -29,14 +29,21 @@ fn wide(b: u8) -> usize
     b as usize
 }
 
+// The strings, which a look-up makes once and hands on.
+fn words() -> [u8; 806]
+    ensures { λ r. ⌜ r ≡ table ⌝ }
+{
+    WORDS
+}
+
 // The n bytes of the text at a place are those of the table at p.
-fn same(text: &[u8], at: usize, p: usize, n: usize) -> bool
-    requires { ⌜ (at + n ≤ length (now text)) × (p + n ≤ length table) ⌝ }
-    ensures { λ r. ⌜ Same (part (now (text .entry)) at n) (part table p n) r ⌝ }
+pub fn same(text: &[u8], at: usize, table: &[u8], p: usize, n: usize) -> bool
+    requires { ⌜ (at + n ≤ length (now text)) × (p + n ≤ length (now table)) ⌝ }
+    ensures { λ r. ⌜ Same (part (now (text .entry)) at n) (part (now (table .entry)) p n) r ⌝ }
 {
     let mut j = 0usize;
     while j < n {
-        if text[at + j] != WORDS[p + j] {
+        if text[at + j] != table[p + j] {
             return false;
         }
         j += 1;
@@ -45,14 +52,14 @@ fn same(text: &[u8], at: usize, p: usize, n: usize) -> bool
 }
 
 // .. and the string that stands there in the table, of this size, has n bytes.
-fn stands(text: &[u8], at: usize, n: usize, p: usize, size: usize) -> bool
-    requires { ⌜ (at + n ≤ length (now text)) × (p + size ≤ length table) ⌝ }
-    ensures { λ r. ⌜ Same (part (now (text .entry)) at n) (part table p size) r ⌝ }
+pub fn stands(text: &[u8], at: usize, n: usize, table: &[u8], p: usize, size: usize) -> bool
+    requires { ⌜ (at + n ≤ length (now text)) × (p + size ≤ length (now table)) ⌝ }
+    ensures { λ r. ⌜ Same (part (now (text .entry)) at n) (part (now (table .entry)) p size) r ⌝ }
 {
     if size != n {
         return false;
     }
-    same(text, at, p, n)
+    same(text, at, table, p, n)
 }
 
 // Which of the strings the n bytes of the text at a place are; STRINGS for none.
@@ -60,11 +67,12 @@ pub fn look_up(text: &[u8], at: usize, n: usize) -> usize
     requires { ⌜ at + n ≤ length (now text) ⌝ }
     ensures { λ r. ⌜ Found (part (now (text .entry)) at n) r ⌝ }
 {
+    let words = words();
     let mut p = 0usize;
     let mut i = 0usize;
     while i < STRINGS {
-        let size = wide(WORDS[p]);
-        if stands(text, at, n, p + 1, size) {
+        let size = wide(words[p]);
+        if stands(text, at, n, &words, p + 1, size) {
             return i;
         }
         p += size + 1;

@@ -13,17 +13,17 @@ use Rattle.grammar.proofs.all_may_be_empty.Statement.{statement}
 use Rattle.grammar.proofs.all_may_be_empty.Tie as tie
 
 abbrev Inv-loop : tie.InvT-loop
-Inv-loop stack top at₀ at = blank G (syms top stack) ≡ blank G (syms at stack)
+Inv-loop t stack top at₀ at = blank G (syms top stack) ≡ blank G (syms at stack)
 
 abbrev μ-loop : tie.MeasureT-loop
-μ-loop stack top at₀ at = 32768 - at
+μ-loop t stack top at₀ at = 32768 - at
 
 loop-holds : tie.Need-loop-holds Inv-loop μ-loop
 loop-holds c = refl
 
 returns : tie.Need-returns Inv-loop μ-loop
 returns c =
-    let n = c .before .before .before .before .pre in
+    let n = c .before .before .before .before .pre .0 in
     let l : c .before .before .before .loop .at < length (now (c .before .before .before .before .args .stack)) = omega arith in
     sym (c .before .before .before .loop .inv ∙ blank-token (now (c .before .before .before .before .args .stack)) (c .before .before .before .loop .at) l (c .if1 .taken))
 
@@ -32,19 +32,19 @@ sub-may-be-empty c = let e = c .wide .ensures in let l = c .before .if1 .left in
 
 returns-2 : tie.Need-returns-2 Inv-loop μ-loop
 returns-2 c =
-    let n = c .before .before .before .before .before .before .before .pre in
+    let n = c .before .before .before .before .before .before .before .pre .0 in
     let l : c .before .before .before .before .before .before .loop .at < length (now (c .before .before .before .before .before .before .before .args .stack)) = omega arith in
     sym (c .before .before .before .before .before .before .loop .inv ∙ blank-symbol (now (c .before .before .before .before .before .before .before .args .stack)) (c .before .before .before .before .before .before .loop .at) l (c .before .before .wide .result - 128) _ (c .before .before .before .if1 .left) (ap (λ (x : ℕ). x - 128) (c .before .before .wide .ensures)) (sym (not-true _ (c .if2 .taken)) ∙ c .before .may-be-empty .ensures))
 
 loop-again : tie.Need-loop-again Inv-loop μ-loop
 loop-again c =
-    let n = c .before .before .before .before .before .before .before .pre in
+    let n = c .before .before .before .before .before .before .before .pre .0 in
     let l : c .before .before .before .before .before .before .loop .at < length (now (c .before .before .before .before .before .before .before .args .stack)) = omega arith in
     c .before .before .before .before .before .before .loop .inv ∙ blank-symbol (now (c .before .before .before .before .before .before .before .args .stack)) (c .before .before .before .before .before .before .loop .at) l (c .before .before .wide .result - 128) _ (c .before .before .before .if1 .left) (ap (λ (x : ℕ). x - 128) (c .before .before .wide .ensures)) (sym (not-false _ (c .if2 .left)) ∙ c .before .may-be-empty .ensures)
 
 returns-3 : tie.Need-returns-3 Inv-loop μ-loop
 returns-3 c =
-    let n = c .before .before .pre in
+    let n = c .before .before .pre .0 in
     let l : length (now (c .before .before .args .stack)) ≤ c .before .loop .at = omega arith in
     sym (c .before .loop .inv ∙ blank-end (now (c .before .before .args .stack)) (c .before .loop .at) l)
 

@@ -1,14 +1,17 @@
--- `byte` reads what the table has: the table is Form's rows as bytes, by one computed equality.
+-- `byte` reads what the table has of the alternative.
 use borrow.Author.Needs.{needs}
-use Rattle.paper_grammar.specs.Laws.Form.{rows}
-use Rattle.grammar.specs.Tables.{alternatives, alternatives-table}
-use Rattle.grammar.proofs.TableLaws.{byte-at}
+use Prim.Native.Nat.{ℕ, _+_, _*_}
+use mathlib.Core.Path.{ap, _∙_}
+use mathlib.Core.List.{List}
+use lib.ListN.{getD}
+use Rattle.grammar.proofs.TableLaws.{alternative-at}
 use Rattle.grammar.proofs.byte.Statement.{statement}
 use Rattle.grammar.proofs.byte.Tie as tie
 
 returns : tie.Need-returns
-unfolding rows alternatives alternatives-table
-returns c = byte-at (c .args .a) (c .args .j) (c .pre .0) (c .pre .1)
+returns c =
+    let a = c .before .args in
+    ap (λ (l : List ℕ). getD l (97 + a .a * 10 + a .j) 0) (c .before .pre .1) ∙ alternative-at (a .a) (a .j) (c .before .pre .0 .0) (c .before .pre .0 .1)
 
 pub byte-spec : {M : Type 1} → statement M
-byte-spec = tie.close (tie.spec (λ c. search needs) (λ c. search needs) (λ c. search needs) returns)
+byte-spec = tie.close (tie.spec (λ c. search needs) (λ c. search needs) (λ c. search needs) (λ c. search needs) returns)

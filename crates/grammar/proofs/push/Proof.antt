@@ -14,36 +14,36 @@ use Rattle.grammar.proofs.push.Statement.{statement}
 use Rattle.grammar.proofs.push.Tie as tie
 
 abbrev Inv-loop : tie.InvT-loop
-Inv-loop stack₀ top a at₀ j₀ stack at j = ((j ≤ length (sideOf a)) × (at + length (sideOf a) ≡ top + j)) × (length stack ≡ 32768) × (drop at stack ≡ drop j (sideOf a) ++ drop top stack₀)
+Inv-loop t stack₀ top a at₀ j₀ stack at j = ((j ≤ length (sideOf a)) × (at + length (sideOf a) ≡ top + j)) × (length stack ≡ 32768) × (drop at stack ≡ drop j (sideOf a) ++ drop top stack₀)
 
 abbrev μ-loop : tie.MeasureT-loop
-μ-loop stack₀ top a at₀ j₀ stack at j = j
+μ-loop t stack₀ top a at₀ j₀ stack at j = j
 
 loop-holds : tie.Need-loop-holds Inv-loop μ-loop
 loop-holds c =
     let a = c .before .before .args in
     let w : c .wide .result ≡ length (sideOf (a .a)) = c .wide .ensures ∙ c .before .byte .ensures ∙ width-is (a .a) ∙ sym (side-length (a .a)) in
-    ((omega arith, omega arith), c .before .before .pre .0, sym (ap (λ (n : ℕ). drop n (sideOf (a .a)) ++ drop (a .top) (now (a .stack))) w ∙ ap (λ (l : List ℕ). l ++ drop (a .top) (now (a .stack))) (drop-length (sideOf (a .a)))))
+    ((omega arith, omega arith), c .before .before .pre .0 .0, sym (ap (λ (n : ℕ). drop n (sideOf (a .a)) ++ drop (a .top) (now (a .stack))) w ∙ ap (λ (l : List ℕ). l ++ drop (a .top) (now (a .stack))) (drop-length (sideOf (a .a)))))
 
 sub-at : tie.Need-sub-at Inv-loop μ-loop
-sub-at c = let s = side-short (c .before .before .before .before .args .a) in let p = c .before .before .before .before .pre .2 in omega arith
+sub-at c = let s = side-short (c .before .before .before .before .args .a) in let p = c .before .before .before .before .pre .0 .2 in omega arith
 
 add-byte : tie.Need-add-byte Inv-loop μ-loop
 add-byte c = let s = side-short (c .before .before .before .before .args .a) in omega arith
 
 byte-requires-2 : tie.Need-byte-requires-2 Inv-loop μ-loop
-byte-requires-2 c κs = let s = side-short (c .before .before .before .before .args .a) in (c .before .before .before .before .pre .1, omega arith)
+byte-requires-2 c κs = let s = side-short (c .before .before .before .before .args .a) in ((c .before .before .before .before .pre .0 .1, omega arith), c .before .before .before .before .pre .1)
 
 element-write-stack : tie.Need-element-write-stack Inv-loop μ-loop
-element-write-stack c = let s = side-short (c .before .before .before .before .before .args .a) in let p = c .before .before .before .before .before .pre .3 in let t = c .before .loop-test .taken in omega arith
+element-write-stack c = let s = side-short (c .before .before .before .before .before .args .a) in let p = c .before .before .before .before .before .pre .0 .3 in let t = c .before .loop-test .taken in omega arith
 
 loop-again : tie.Need-loop-again Inv-loop μ-loop
 loop-again c =
     let a = c .before .before .before .before .before .args in
     let l = c .before .before .loop in
     let s = side-short (a .a) in
-    let p = c .before .before .before .before .before .pre .2 in
-    let q = c .before .before .before .before .before .pre .3 in
+    let p = c .before .before .before .before .before .pre .0 .2 in
+    let q = c .before .before .before .before .before .pre .0 .3 in
     let n = l .inv .1 in
     let i0 = l .inv .0 .0 in
     let i1 = l .inv .0 .1 in
@@ -55,7 +55,7 @@ returns c =
     let a = c .before .before .before .before .args in
     let l = c .before .loop in
     let s = side-short (a .a) in
-    let p = c .before .before .before .before .pre .2 in
+    let p = c .before .before .before .before .pre .0 .2 in
     let i1 = l .inv .0 .1 in
     let z : l .j ≡ 0 = omega arith in
     (l .inv .1, omega arith, omega arith, l .inv .2 ∙ ap (λ (n : ℕ). drop n (sideOf (a .a)) ++ drop (a .top) (now (a .stack))) z)

@@ -9,19 +9,19 @@ use Rattle.grammar.proofs.seek.Statement.{statement}
 use Rattle.grammar.proofs.seek.Tie as tie
 
 abbrev Inv-loop : tie.InvT-loop
-Inv-loop k from to a₀ a = ((from ≤ a) × (a ≤ to)) × (seekIn k from (slice from to alternatives) ≡ seekIn k a (slice a to alternatives))
+Inv-loop t k from to a₀ a = ((from ≤ a) × (a ≤ to)) × (seekIn k from (slice from to alternatives) ≡ seekIn k a (slice a to alternatives))
 
 abbrev μ-loop : tie.MeasureT-loop
-μ-loop k from to a₀ a = to - a
+μ-loop t k from to a₀ a = to - a
 
 loop-holds : tie.Need-loop-holds Inv-loop μ-loop
 loop-holds c = (search needs, refl)
 
 returns : tie.Need-returns Inv-loop μ-loop
-returns c = sym (c .before .before .before .loop .inv .1 ∙ seek-hit (c .before .before .before .before .args .k) (c .before .before .before .loop .a) (c .before .before .before .before .args .to) (c .before .before .loop-test .taken) (c .before .before .before .before .pre .1) (sym (c .before .byte .ensures) ∙ c .if1 .taken))
+returns c = sym (c .before .before .before .loop .inv .1 ∙ seek-hit (c .before .before .before .before .args .k) (c .before .before .before .loop .a) (c .before .before .before .before .args .to) (c .before .before .loop-test .taken) (c .before .before .before .before .pre .0 .1) (sym (c .before .byte .ensures) ∙ c .if1 .taken))
 
 loop-again : tie.Need-loop-again Inv-loop μ-loop
-loop-again c = (search needs, c .before .before .before .loop .inv .1 ∙ seek-miss (c .before .before .before .before .args .k) (c .before .before .before .loop .a) (c .before .before .before .before .args .to) (c .before .before .loop-test .taken) (c .before .before .before .before .pre .1) (λ e. c .if1 .left (c .before .byte .ensures ∙ e)))
+loop-again c = (search needs, c .before .before .before .loop .inv .1 ∙ seek-miss (c .before .before .before .before .args .k) (c .before .before .before .loop .a) (c .before .before .before .before .args .to) (c .before .before .loop-test .taken) (c .before .before .before .before .pre .0 .1) (λ e. c .if1 .left (c .before .byte .ensures ∙ e)))
 
 returns-2 : tie.Need-returns-2 Inv-loop μ-loop
 returns-2 c = sym (c .before .loop .inv .1 ∙ seek-end (c .before .before .args .k) (c .before .loop .a) (c .before .before .args .to) (search needs))

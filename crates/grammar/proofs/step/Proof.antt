@@ -1,11 +1,11 @@
 -- `step` is `adv`: what is passed over is off the stack, and then the top decides, test by test.
 use borrow.Author.Needs.{needs}
 use native.Mathlib.Omega.{arith}
-use Prim.Native.Nat.{ℕ, suc, _≤_, _<_, _-_}
-use mathlib.Core.Path.{_≡_, refl, sym, ap, _∙_}
-use lib.ListN.{length, getD}
+use Prim.Native.Nat.{ℕ, _≤_, _<_, _-_}
+use mathlib.Core.Path.{ap}
+use lib.ListN.{length}
 use denote.Ref.{now}
-use Rattle.grammar.proofs.MachineLaws.{none-left, taken, unlabelled, another, no-alternative, in-table, replaced, labelled}
+use Rattle.grammar.proofs.MachineLaws.{none-left, taken, another, no-alternative, in-table, replaced}
 use Rattle.grammar.proofs.step.Statement.{statement}
 use Rattle.grammar.proofs.step.Tie as tie
 
@@ -13,7 +13,7 @@ returns : tie.Need-returns
 returns c =
     let a = c .before .before .before .args in
     let s = c .before .skip in
-    let n = c .before .before .before .pre .0 in
+    let n = c .before .before .before .pre .0 .0 in
     let l : length (now (a .stack)) ≤ s .result = omega arith in
     none-left (now (a .stack)) (a .top) (s .result) (a .k) (s .ensures .1) l
 
@@ -21,16 +21,16 @@ returns-2 : tie.Need-returns-2
 returns-2 c =
     let a = c .before .before .before .before .before .before .args in
     let s = c .before .before .before .before .skip in
-    let n = c .before .before .before .before .before .before .pre .0 in
+    let n = c .before .before .before .before .before .before .pre .0 .0 in
     let b = s .ensures .0 in
     let l : s .result < length (now (a .stack)) = omega arith in
-    ((n, omega arith, omega arith), (unlabelled (now (a .stack)) (a .top) (s .result) (a .k) (s .ensures .1) l (c .before .if2 .taken), taken (now (a .stack)) (a .top) (s .result) (a .k) (s .ensures .1) l (c .before .if2 .taken) (c .if3 .taken)))
+    ((n, omega arith, omega arith), taken (now (a .stack)) (a .top) (s .result) (a .k) (s .ensures .1) l (c .before .if2 .taken) (c .if3 .taken))
 
 returns-3 : tie.Need-returns-3
 returns-3 c =
     let a = c .before .before .before .before .before .before .args in
     let s = c .before .before .before .before .skip in
-    let n = c .before .before .before .before .before .before .pre .0 in
+    let n = c .before .before .before .before .before .before .pre .0 .0 in
     let b = s .ensures .0 in
     let l : s .result < length (now (a .stack)) = omega arith in
     another (now (a .stack)) (a .top) (s .result) (a .k) (s .ensures .1) l (c .before .if2 .taken) (c .if3 .left)
@@ -39,7 +39,7 @@ returns-4 : tie.Need-returns-4
 returns-4 c =
     let a = c .before .before .before .before .before .before .before .before .args in
     let s = c .before .before .before .before .before .before .skip in
-    let n = c .before .before .before .before .before .before .before .before .pre .0 in
+    let n = c .before .before .before .before .before .before .before .before .pre .0 .0 in
     let b = s .ensures .0 in
     let l : s .result < length (now (a .stack)) = omega arith in
     no-alternative (now (a .stack)) (a .top) (s .result) (a .k) (s .ensures .1) l (c .before .before .wide .result - 128) (c .before .choice .result) (c .before .before .before .if2 .left) (ap (λ (x : ℕ). x - 128) (c .before .before .wide .ensures)) (c .before .choice .ensures) (c .if4 .taken)
@@ -48,19 +48,19 @@ push-requires : tie.Need-push-requires
 push-requires c κs =
     let a = c .before .before .before .before .before .before .before .before .before .args in
     let s = c .before .before .before .before .before .before .before .skip in
-    let n = c .before .before .before .before .before .before .before .before .before .pre .0 in
-    let t = c .before .before .before .before .before .before .before .before .before .pre .1 in
+    let n = c .before .before .before .before .before .before .before .before .before .pre .0 .0 in
+    let t = c .before .before .before .before .before .before .before .before .before .pre .0 .1 in
     let b = s .ensures .0 in
     let z = c .before .if4 .left in
     let l : s .result < length (now (a .stack)) = omega arith in
     let i = in-table (now (a .stack)) (a .top) (s .result) (a .k) (s .ensures .1) l (c .before .before .before .wide .result - 128) (c .before .before .choice .result) (c .before .before .before .before .if2 .left) (ap (λ (x : ℕ). x - 128) (c .before .before .before .wide .ensures)) (c .before .before .choice .ensures) z in
-    (n, omega arith, omega arith, omega arith)
+    ((n, omega arith, omega arith, omega arith), c .before .before .before .before .before .before .before .before .before .pre .1)
 
 returns-5 : tie.Need-returns-5
 returns-5 c =
     let a = c .before .before .before .before .before .before .before .before .before .before .args in
     let s = c .before .before .before .before .before .before .before .before .skip in
-    let n = c .before .before .before .before .before .before .before .before .before .before .pre .0 in
+    let n = c .before .before .before .before .before .before .before .before .before .before .pre .0 .0 in
     let b = s .ensures .0 in
     let z = c .before .before .if4 .left in
     let p = c .push in
@@ -69,13 +69,9 @@ returns-5 c =
     let l : s .result < length (now (a .stack)) = omega arith in
     let p1 = p .ensures .1 in
     let p2 = p .ensures .2 in
-    let m : getD (now (a .stack)) (s .result) 0 - 127 ≡ suc (c .before .before .before .before .wide .result - 128) = omega arith in
     let e = ap (λ (x : ℕ). x - 128) w in (
       (p .ensures .0, omega arith, omega arith),
-      (
-        m ∙ labelled (now (a .stack)) (a .top) (s .result) (a .k) (s .ensures .1) l (c .before .before .before .before .wide .result - 128) (c .before .before .before .choice .result) g e (c .before .before .before .choice .ensures) z,
-        replaced (now (a .stack)) (a .top) (s .result) (a .k) (s .ensures .1) l (c .before .before .before .before .wide .result - 128) (c .before .before .before .choice .result) g e (c .before .before .before .choice .ensures) z _ (p .result) (p .ensures .3),
-      ),
+      replaced (now (a .stack)) (a .top) (s .result) (a .k) (s .ensures .1) l (c .before .before .before .before .wide .result - 128) (c .before .before .before .choice .result) g e (c .before .before .before .choice .ensures) z _ (p .result) (p .ensures .3),
     )
 
 pub step-spec : {M : Type 1} → statement M
@@ -91,5 +87,4 @@ step-spec =
     returns-4
     (λ c. search needs) (λ c. search needs)
     push-requires
-    (λ c. search needs)
     returns-5)

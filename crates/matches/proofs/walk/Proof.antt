@@ -17,7 +17,7 @@ use Rattle.matches.proofs.walk.Statement.{statement}
 use Rattle.matches.proofs.walk.Tie as tie
 
 abbrev Inv-rules : tie.InvT-rules
-Inv-rules text at shut states₀ best₀ i k n alive₀ r₀ states best alive r =
+Inv-rules text at shut delta accepts states₀ best₀ i k n alive₀ r₀ states best alive r =
     (r ≤ 7) × (length states ≡ 7) × (alive ≤ r * 35)
     × ((j : ℕ) → j < r → getD states j 0 ≡ After (beginOf shut) text at j (i - at + 1))
     × ((j : ℕ) → r ≤ j → j < 7 → getD states j 0 ≡ After (beginOf shut) text at j (i - at))
@@ -25,16 +25,16 @@ Inv-rules text at shut states₀ best₀ i k n alive₀ r₀ states best alive r
     × Sofar text at ((i - at + 1) * 7 + r) best
 
 abbrev μ-rules : tie.MeasureT-rules
-μ-rules text at shut states₀ best₀ i k n alive₀ r₀ states best alive r = 7 - r
+μ-rules text at shut delta accepts states₀ best₀ i k n alive₀ r₀ states best alive r = 7 - r
 
 abbrev Inv-walk : tie.InvT-walk
-Inv-walk text at shut states₀ best₀ i₀ states best i =
+Inv-walk text at shut delta accepts states₀ best₀ i₀ states best i =
     (at ≤ i) × (i ≤ length text) × (length states ≡ 7)
     × ((j : ℕ) → j < 7 → getD states j 0 ≡ After (beginOf shut) text at j (i - at))
     × Sofar text at ((i - at + 1) * 7) best
 
 abbrev μ-walk : tie.MeasureT-walk
-μ-walk text at shut states₀ best₀ i₀ states best i = length text - i
+μ-walk text at shut delta accepts states₀ best₀ i₀ states best i = length text - i
 
 begin-length : (shut : Bool) → length (beginOf shut) ≡ 7
 begin-length true = refl
@@ -42,7 +42,7 @@ begin-length false = refl
 
 walk-holds : tie.Need-walk-holds Inv-rules μ-rules Inv-walk μ-walk
 walk-holds c =
-    let s = c .before .before in
+    let s = c .before .before .before .before in
     let t = s .args .text .now in
     let at = s .args .at in
     let g = beginOf (s .args .shut) in
@@ -59,7 +59,7 @@ walk-holds c =
 rules-holds : tie.Need-rules-holds Inv-rules μ-rules Inv-walk μ-walk
 rules-holds c =
     let w = c .before .before .before .walk in
-    let s = c .before .before .before .before .before .before in
+    let s = c .before .before .before .before .before .before .before .before in
     let y : (w .i - s .args .at + 1) * 7 ≡ (w .i - s .args .at + 1) * 7 + 0 = omega arith in (
       omega arith,
       w .inv .2,
@@ -72,9 +72,9 @@ rules-holds c =
 
 next-requires : tie.Need-next-requires Inv-rules μ-rules Inv-walk μ-walk
 next-requires c κs =
-    let u = c .before .rules in
-    let w = c .before .before .before .before .before .walk in
-    let s = c .before .before .before .before .before .before .before .before in
+    let u = c .before .before .rules in
+    let w = c .before .before .before .before .before .before .walk in
+    let s = c .before .before .before .before .before .before .before .before .before .before .before in
     let l : u .r < 7 = omega arith in
     let t = s .args .text .now in
     let at = s .args .at in
@@ -83,54 +83,54 @@ next-requires c κs =
     let e : getD (u .states) (u .r) 0 ≡ After g t at (u .r) (w .i - at) = u .inv .4 (u .r) (omega arith) l in
     let y = after-small t at g ok (u .r) (w .i - at) l in
     let f = fine-small (getD t (w .i) 0) in
-    let k = c .before .before .kind .ensures in
-    (omega arith, omega arith)
+    let k = c .before .before .before .kind .ensures in
+    (c .before .before .before .before .before .before .before .before .before .delta .ensures, omega arith, omega arith)
 
 -- the state that was reached, and its rule's run
 reached : (c : tie.After-next Inv-rules μ-rules Inv-walk μ-walk) →
-    let u = c .before .before .rules in
-    let w = c .before .before .before .before .before .before .walk in
-    let s = c .before .before .before .before .before .before .before .before .before in
+    let u = c .before .before .before .rules in
+    let w = c .before .before .before .before .before .before .before .walk in
+    let s = c .before .before .before .before .before .before .before .before .before .before .before .before in
     c .next .result ≡ After (beginOf (s .args .shut)) (s .args .text .now) (s .args .at) (u .r) (w .i - s .args .at + 1)
 reached c =
-    let u = c .before .before .rules in
-    let w = c .before .before .before .before .before .before .walk in
-    let s = c .before .before .before .before .before .before .before .before .before in
+    let u = c .before .before .before .rules in
+    let w = c .before .before .before .before .before .before .before .walk in
+    let s = c .before .before .before .before .before .before .before .before .before .before .before .before in
     let t = s .args .text .now in
     let at = s .args .at in
     let l : u .r < 7 = omega arith in
     after-step t at (beginOf (s .args .shut)) (begun t at (s .args .shut) (s .pre .1)) (u .r) (w .i) (getD (u .states) (u .r) 0) (c .next .result) (omega arith) (omega arith)
     (u .inv .4 (u .r) (omega arith) l)
-    (c .next .ensures ∙ ap (λ (k : ℕ). nextOf (getD (u .states) (u .r) 0) k) (c .before .before .before .kind .ensures))
+    (c .next .ensures ∙ ap (λ (k : ℕ). nextOf (getD (u .states) (u .r) 0) k) (c .before .before .before .before .kind .ensures))
 
 small : (c : tie.After-next Inv-rules μ-rules Inv-walk μ-walk) → c .next .result < 35
 small c =
-    let u = c .before .before .rules in
-    let w = c .before .before .before .before .before .before .walk in
-    let s = c .before .before .before .before .before .before .before .before .before in
+    let u = c .before .before .before .rules in
+    let w = c .before .before .before .before .before .before .before .walk in
+    let s = c .before .before .before .before .before .before .before .before .before .before .before .before in
     let e = reached c in
     let y = after-small (s .args .text .now) (s .args .at) (beginOf (s .args .shut)) (begun (s .args .text .now) (s .args .at) (s .args .shut) (s .pre .1)) (u .r) (w .i - s .args .at + 1) (omega arith) in
     omega arith
 
 better-requires : tie.Need-better-requires Inv-rules μ-rules Inv-walk μ-walk
-better-requires c κs = small c
+better-requires c κs = (c .before .before .before .before .before .before .before .before .before .before .accepts .ensures, small (c .before))
 
 add-alive : tie.Need-add-alive Inv-rules μ-rules Inv-walk μ-walk
-add-alive c = let h = small (c .before) in let u = c .before .before .before .rules in let l : u .r < 7 = omega arith in omega arith
+add-alive c = let h = small (c .before .before) in let u = c .before .before .before .before .before .rules in let l : u .r < 7 = omega arith in omega arith
 
 rules-again : tie.Need-rules-again Inv-rules μ-rules Inv-walk μ-walk
 rules-again c =
-    let u = c .before .before .before .rules in
-    let w = c .before .before .before .before .before .before .before .walk in
-    let s = c .before .before .before .before .before .before .before .before .before .before in
+    let u = c .before .before .before .before .before .rules in
+    let w = c .before .before .before .before .before .before .before .before .before .walk in
+    let s = c .before .before .before .before .before .before .before .before .before .before .before .before .before .before in
     let t = s .args .text .now in
     let at = s .args .at in
     let g = beginOf (s .args .shut) in
     let ok = begun t at (s .args .shut) (s .pre .1) in
     let l : u .r < 7 = omega arith in
-    let e = reached (c .before) in
-    let y = small (c .before) in
-    let q = c .before .next .result in (
+    let e = reached (c .before .before) in
+    let y = small (c .before .before) in
+    let q = c .before .before .next .result in (
       omega arith,
       search needs,
       omega arith,
@@ -145,7 +145,7 @@ walk-again : tie.Need-walk-again Inv-rules μ-rules Inv-walk μ-walk
 walk-again c =
     let u = c .before .before .rules in
     let w = c .before .before .before .before .before .before .walk in
-    let s = c .before .before .before .before .before .before .before .before .before in
+    let s = c .before .before .before .before .before .before .before .before .before .before .before in
     let t = s .args .text .now in
     let at = s .args .at in
     let g = beginOf (s .args .shut) in
@@ -162,7 +162,7 @@ walk-again c =
 returns : tie.Need-returns Inv-rules μ-rules Inv-walk μ-walk
 returns c =
     let w = c .before .walk in
-    let s = c .before .before .before .before in
+    let s = c .before .before .before .before .before .before in
     let t = s .args .text .now in
     let at = s .args .at in
     let e : at + (w .i - at) ≡ length t = omega arith in
@@ -172,7 +172,7 @@ returns-2 : tie.Need-returns-2 Inv-rules μ-rules Inv-walk μ-walk
 returns-2 c =
     let u = c .before .before .rules in
     let w = c .before .before .before .before .before .before .walk in
-    let s = c .before .before .before .before .before .before .before .before .before in
+    let s = c .before .before .before .before .before .before .before .before .before .before .before in
     let t = s .args .text .now in
     let at = s .args .at in
     let z : u .r ≡ 7 = c .before .if1 .taken in
@@ -188,7 +188,7 @@ walk-spec =
     μ-rules
     Inv-walk
     μ-walk
-    (λ c κs. search needs)
+    (λ c κs. search needs) (λ c κs. search needs) (λ c κs. search needs)
     walk-holds
     (λ c. search needs) (λ c κs. search needs) (λ c. search needs) (λ c. search needs)
     rules-holds
