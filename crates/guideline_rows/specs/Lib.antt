@@ -1,0 +1,9 @@
+pub mod Rows
+pub mod Sizes
+pub mod Flat
+pub mod FlatLaws
+pub mod Brackets
+pub mod Flags
+pub mod Worked
+pub mod Tally
+pub mod TallyLaws
