@@ -4,6 +4,7 @@ mod one;
 mod states;
 mod two;
 
+use parts::Code;
 pub use states::handle;
 use values::Scalar;
 use values::Value;
@@ -16,8 +17,8 @@ ghost use Rattle.apply.specs.Applies.{Applies};
 fn three(
     bytes: &[u8],
     tasks: &[u32],
-    states: &[u8],
-    kind: u8,
+    states: &[u32],
+    kind: usize,
     a: Value,
     b: Value,
     c: Value,
@@ -25,7 +26,7 @@ fn three(
     ensures { λ r. ⌜ Applies (now (bytes .entry)) (now (tasks .entry)) (now (states .entry)) kind (a ∷ b ∷ c ∷ []) r ⌝ }
 {
     match kind {
-        70 => operators::if_else(a, b, c),
+        Code::IF => operators::if_else(a, b, c),
         _ => values::single(Scalar::Unknown),
     }
 }
@@ -34,8 +35,8 @@ fn three(
 pub fn applied(
     bytes: &[u8],
     tasks: &[u32],
-    states: &[u8],
-    kind: u8,
+    states: &[u32],
+    kind: usize,
     n: usize,
     a: Value,
     b: Value,

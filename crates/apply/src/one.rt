@@ -5,6 +5,7 @@ ghost use Rattle.operators.specs.Means.{Means};
 ghost use Rattle.apply.specs.Applies.{Applies};
 use crate::states;
 use operators::Extreme;
+use parts::Code;
 use values::Scalar;
 use values::Value;
 
@@ -23,21 +24,21 @@ fn min(bytes: &[u8], a: Value) -> Value
 }
 
 // The operator with the number `kind`, or unknown if none has one operand and that number.
-pub fn one(bytes: &[u8], tasks: &[u32], states: &[u8], kind: u8, a: Value) -> Value
+pub fn one(bytes: &[u8], tasks: &[u32], states: &[u32], kind: usize, a: Value) -> Value
     ensures { λ r. ⌜ Applies (now (bytes .entry)) (now (tasks .entry)) (now (states .entry)) kind (a ∷ []) r ⌝ }
 {
     match kind {
-        80 => arithmetic::negate(a),
-        90 => operators::isknown(a),
-        100 => operators::not(a),
-        110 => sequences::count(a),
-        120 => sequences::sum(a),
-        130 => max(bytes, a),
-        131 => min(bytes, a),
-        150 => states::is_in(bytes, tasks, states, 1, a),
-        151 => states::is_in(bytes, tasks, states, 2, a),
-        152 => states::is_in(bytes, tasks, states, 3, a),
-        153 => states::is_in(bytes, tasks, states, 4, a),
+        Code::NEGATE => arithmetic::negate(a),
+        Code::ISKNOWN => operators::isknown(a),
+        Code::NOT => operators::not(a),
+        Code::COUNT => sequences::count(a),
+        Code::SUM => sequences::sum(a),
+        Code::MAX => max(bytes, a),
+        Code::MIN => min(bytes, a),
+        Code::IS_DORMANT => states::is_in(bytes, tasks, states, 1, a),
+        Code::IS_IN_PROGRESS => states::is_in(bytes, tasks, states, 2, a),
+        Code::IS_DISCARDED => states::is_in(bytes, tasks, states, 3, a),
+        Code::IS_COMPLETED => states::is_in(bytes, tasks, states, 4, a),
         _ => values::single(Scalar::Unknown),
     }
 }

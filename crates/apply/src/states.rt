@@ -43,18 +43,18 @@ fn find_task(bytes: &[u8], tasks: &[u32], h: Handle) -> usize
 }
 
 // Whether the task that the text names is in the state; unknown if there is none.
-fn in_state(bytes: &[u8], tasks: &[u32], states: &[u8], state: u8, h: Handle) -> Scalar
+fn in_state(bytes: &[u8], tasks: &[u32], states: &[u32], state: usize, h: Handle) -> Scalar
     ensures { λ r. ⌜ StateOf (now (bytes .entry)) (now (tasks .entry)) (now (states .entry)) state h r ⌝ }
 {
     let i = find_task(bytes, tasks, h);
     if i < tasks.len() {
-        return Scalar::Truth(parts::byte(states, i) == state);
+        return Scalar::Truth(parts::number(states, i) == state);
     }
     Scalar::Unknown
 }
 
 // One of the four functors, by the number of its state.
-pub fn is_in(bytes: &[u8], tasks: &[u32], states: &[u8], state: u8, a: Value) -> Value
+pub fn is_in(bytes: &[u8], tasks: &[u32], states: &[u32], state: usize, a: Value) -> Value
     ensures { λ r. ⌜ Asked (now (bytes .entry)) (now (tasks .entry)) (now (states .entry)) state a r ⌝ }
 {
     let s = values::scalar_of(a);

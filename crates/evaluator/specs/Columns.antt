@@ -11,7 +11,7 @@ use Rattle.paper_expressions.specs.Values.{one, sequence}
 use Rattle.paper_expressions.specs.View.{View, Item, At, Apart}
 use Rattle.paper_expressions.specs.Laws.WithinLimits.{Held}
 use Rattle.parts.specs.Texts.{literal}
-use Rattle.parts.specs.Part.{Table}
+use Rattle.parts.specs.Part.{Table, code-at, load-at}
 use Rattle.parts.specs.Items.{Items}
 use Rattle.values.specs.declared.scalar.Scalar.{Scalar}
 use Rattle.values.specs.declared.scalar.Scalar.the-variants.{Unknown, Truth, Text}
@@ -23,12 +23,12 @@ use Rattle.apply.specs.Tasks.{handleOf, Tasks}
 pub record Columns : Type 0 where
   pub names : List ℕ
   pub tags : List ℕ
-  pub cells : List ℕ
+  pub nums : List ℕ
   pub tasks : List ℕ
   pub states : List ℕ
 
 abbrev pub columns : List ℕ → List ℕ → List ℕ → List ℕ → List ℕ → Columns
-columns names tags cells tasks states = record { names = names; tags = tags; cells = cells; tasks = tasks; states = states }
+columns names tags nums tasks states = record { names = names; tags = tags; nums = nums; tasks = tasks; states = states }
 
 -- ---- the values of the data items
 
@@ -42,23 +42,23 @@ scalarAt k x =
     Unknown)))
 
 abbrev pub cellAt : List ℕ → List ℕ → ℕ → Scalar
-cellAt tags cells p = scalarAt (getD tags p 0) (getD cells p 0)
+cellAt tags nums p = scalarAt (getD tags p 0) (getD nums p 0)
 
 -- the n cells from p on, where b are the lent bytes
 abbrev pub cellsAt : List ℕ → List ℕ → List ℕ → ℕ → ℕ → List paper.Scalar
-cellsAt b tags cells p zero = []
-cellsAt b tags cells p (suc n) = meaning b (cellAt tags cells p) ∷ cellsAt b tags cells (suc p) n
+cellsAt b tags nums p zero = []
+cellsAt b tags nums p (suc n) = meaning b (cellAt tags nums p) ∷ cellsAt b tags nums (suc p) n
 
 -- an item's cells from p on, of the shape k: one value, or a list of k - 1, at most 16
 abbrev pub shapedAt : List ℕ → List ℕ → List ℕ → ℕ → ℕ → paper.Value
-shapedAt b tags cells p k =
-    cond (eqb k 0) (one (meaning b (cellAt tags cells (p + 1))))
+shapedAt b tags nums p k =
+    cond (eqb k 0) (one (meaning b (cellAt tags nums (p + 1))))
     (cond (ltb 17 k) (one paper.unknown)
-    (sequence (cellsAt b tags cells (p + 1) (k - 1))))
+    (sequence (cellsAt b tags nums (p + 1) (k - 1))))
 
 -- the value of the i-th item
 abbrev pub shownAt : List ℕ → List ℕ → List ℕ → ℕ → paper.Value
-shownAt b tags cells i = cond (ltb i 65536) (shapedAt b tags cells (17 * i) (getD tags (17 * i) 0)) (one paper.unknown)
+shownAt b tags nums i = cond (ltb i 65536) (shapedAt b tags nums (17 * i) (getD tags (17 * i) 0)) (one paper.unknown)
 
 -- no value row, and the value unknown, are shown alike
 abbrev pub shown : Option paper.Value → paper.Value
@@ -66,18 +66,18 @@ shown none = one paper.unknown
 shown (some w) = w
 
 -- the columns hold the names, for some column of declared types, and the values of the view's items
-pub record ShowsItems (b names tags cells : List ℕ) (v : View) : Type 0 where
+pub record ShowsItems (b names tags nums : List ℕ) (v : View) : Type 0 where
   pub types : List ℕ
   pub items : Items b names types v
-  pub values : {i : ℕ} {x : Item} → At (v .items) i x → shownAt b tags cells i ≡ shown (x .value)
+  pub values : {i : ℕ} {x : Item} → At (v .items) i x → shownAt b tags nums i ≡ shown (x .value)
 
 -- ---- what the code reads of them
 
 abbrev pub ElementsOf : List ℕ → List ℕ → ℕ → ℕ → Code.List → Type 0
-ElementsOf tags cells p n l = (b : List ℕ) → meaningL b l ≡ cellsAt b tags cells p n
+ElementsOf tags nums p n l = (b : List ℕ) → meaningL b l ≡ cellsAt b tags nums p n
 
 abbrev pub ItemOf : List ℕ → List ℕ → ℕ → Value → Type 0
-ItemOf tags cells i r = (b : List ℕ) → meaningV b r ≡ shownAt b tags cells i
+ItemOf tags nums i r = (b : List ℕ) → meaningV b r ≡ shownAt b tags nums i
 
 -- ---- the texts of the part table: an atom's or a string's lies within the bytes
 
@@ -90,14 +90,14 @@ pub record Spelt (b : List ℕ) (k x : ℕ) : Type 0 where
   pub string : k ≡ 4 → Inside b x
 
 -- of every part; past the end of the table there is none
-abbrev pub AllSpelt : List ℕ → List ℕ → List ℕ → Type 0
-AllSpelt b kinds loads = (p : ℕ) → Spelt b (getD kinds p 0) (getD loads p 0)
+abbrev pub AllSpelt : Table → Type 0
+AllSpelt t = (p : ℕ) → Spelt (t .bytes) (code-at t p) (load-at t p)
 
 -- ---- all that is asked of the tables and the view, whatever the expression
 
 pub record Setting (t : Table) (c : Columns) (v : View) : Type 0 where
   pub apart : Apart v
   pub held : Held v
-  pub items : ShowsItems (t .bytes) (c .names) (c .tags) (c .cells) v
+  pub items : ShowsItems (t .bytes) (c .names) (c .tags) (c .nums) v
   pub tasks : Tasks (t .bytes) (c .tasks) (c .states) v
-  pub texts : AllSpelt (t .bytes) (t .kinds) (t .loads)
+  pub texts : AllSpelt t

@@ -3,7 +3,7 @@
 use mathlib.Core.Path.{_≡_, refl, subst}
 use mathlib.Core.List.{[], _∷_}
 use mathlib.Core.Option.{none, some}
-use Prim.Native.Nat.{ℕ, zero, suc}
+use Prim.Native.Nat.{ℕ, zero, suc, _<_}
 use native.Mathlib.Omega.{arith}
 use lib.IntN.{pos}
 use lib.ListN.{getD}
@@ -20,12 +20,12 @@ use Rattle.paper_expressions.specs.Laws.Promise.{eval-only}
 use Rattle.paper_expressions.specs.Laws.Soundness.{sound-if}
 use Rattle.parts.specs.Codes.{declared-code}
 use Rattle.parts.specs.Texts.{textAt}
-use Rattle.parts.specs.Part.{Table, table, Ends, Within}
+use Rattle.parts.specs.Part.{Table, table, code-at, load-at, Ends, Within}
 use Rattle.values.specs.declared.value.Value.{Value}
 use Rattle.values.specs.Meaning.{meaningV}
 use Rattle.apply.specs.Tasks.{nameOf, state-number}
-use Rattle.evaluator.specs.Columns.{Columns, columns, shown, shownAt, AllSpelt, Setting}
-use Rattle.evaluator.specs.Texts.{spelt-inside, spelt-other}
+use Rattle.evaluator.specs.Columns.{Columns, columns, shown, shownAt, Spelt, AllSpelt, Setting}
+use Rattle.evaluator.specs.Texts.{spelt-inside, spelt-other, all-spelt}
 use Rattle.evaluator.specs.Published.{Published}
 
 -- ---- the guideline
@@ -50,10 +50,15 @@ expression =
 abbrev parts : Table
 parts =
     table
-    (1 ∷ 150 ∷ 1 ∷ 2 ∷ 5 ∷ 131 ∷ 2 ∷ 70 ∷ [])
-    (0 ∷ 1 ∷ 0 ∷ 0 ∷ 2 ∷ 1 ∷ 0 ∷ 3 ∷ [])
-    (1 ∷ 2 ∷ 1 ∷ 1 ∷ 3 ∷ 4 ∷ 1 ∷ 8 ∷ [])
-    (65 ∷ 0 ∷ 1 ∷ 2_000_000_005 ∷ 0 ∷ 0 ∷ 2_000_000_009 ∷ 0 ∷ [])
+    (1 ∷ 0 ∷ 1 ∷ 65
+    ∷ 150 ∷ 1 ∷ 2 ∷ 0
+    ∷ 1 ∷ 0 ∷ 1 ∷ 1
+    ∷ 2 ∷ 0 ∷ 1 ∷ 2_000_000_005
+    ∷ 5 ∷ 2 ∷ 3 ∷ 0
+    ∷ 131 ∷ 1 ∷ 4 ∷ 0
+    ∷ 2 ∷ 0 ∷ 1 ∷ 2_000_000_009
+    ∷ 70 ∷ 3 ∷ 8 ∷ 0
+    ∷ [])
     (bytes "at")
 
 abbrev lent : Columns
@@ -76,7 +81,7 @@ type-at : {i : ℕ} {x : Item} → At (guideline .items) i x → getD (2 ∷ [])
 type-at at-first = refl
 type-at (at-later h) = elim h [ ]
 
-value-at : {i : ℕ} {x : Item} → At (guideline .items) i x → shownAt (bytes "at") (lent .tags) (lent .cells) i ≡ shown (x .value)
+value-at : {i : ℕ} {x : Item} → At (guideline .items) i x → shownAt (bytes "at") (lent .tags) (lent .nums) i ≡ shown (x .value)
 value-at at-first = refl
 value-at (at-later h) = elim h [ ]
 
@@ -90,16 +95,19 @@ state-at at-first = refl
 state-at (at-later at-first) = refl
 state-at (at-later (at-later h)) = elim h [ ]
 
-text-at : AllSpelt (bytes "at") (parts .kinds) (parts .loads)
-text-at zero = spelt-inside {k = 1} (omega arith)
-text-at (suc zero) = spelt-other (λ e. omega arith) (λ e. omega arith)
-text-at (suc (suc zero)) = spelt-inside {k = 1} (omega arith)
-text-at (suc (suc (suc zero))) = spelt-other (λ e. omega arith) (λ e. omega arith)
-text-at (suc (suc (suc (suc zero)))) = spelt-other (λ e. omega arith) (λ e. omega arith)
-text-at (suc (suc (suc (suc (suc zero))))) = spelt-other (λ e. omega arith) (λ e. omega arith)
-text-at (suc (suc (suc (suc (suc (suc zero)))))) = spelt-other (λ e. omega arith) (λ e. omega arith)
-text-at (suc (suc (suc (suc (suc (suc (suc zero))))))) = spelt-other (λ e. omega arith) (λ e. omega arith)
-text-at (suc (suc (suc (suc (suc (suc (suc (suc p)))))))) = spelt-other (λ e. omega arith) (λ e. omega arith)
+text-at : AllSpelt parts
+text-at = all-spelt parts 8 (omega arith) each
+  where
+    each : (p : ℕ) → p < 8 → Spelt (bytes "at") (code-at parts p) (load-at parts p)
+    each zero h = spelt-inside {k = 1} (omega arith)
+    each (suc zero) h = spelt-other (λ e. omega arith) (λ e. omega arith)
+    each (suc (suc zero)) h = spelt-inside {k = 1} (omega arith)
+    each (suc (suc (suc zero))) h = spelt-other (λ e. omega arith) (λ e. omega arith)
+    each (suc (suc (suc (suc zero)))) h = spelt-other (λ e. omega arith) (λ e. omega arith)
+    each (suc (suc (suc (suc (suc zero))))) h = spelt-other (λ e. omega arith) (λ e. omega arith)
+    each (suc (suc (suc (suc (suc (suc zero)))))) h = spelt-other (λ e. omega arith) (λ e. omega arith)
+    each (suc (suc (suc (suc (suc (suc (suc zero))))))) h = spelt-other (λ e. omega arith) (λ e. omega arith)
+    each (suc (suc (suc (suc (suc (suc (suc (suc p)))))))) h = absurd (omega arith)
 
 setting : Setting parts lent guideline
 setting =

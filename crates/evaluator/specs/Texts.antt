@@ -1,11 +1,11 @@
 -- Law: if each part of a table was tested, its texts lie within the bytes. Past the end no part is a text.
-use mathlib.Core.Path.{_≡_, refl}
-use mathlib.Core.List.{List, [], _∷_}
-use Prim.Native.Nat.{ℕ, zero, suc, _≤_, _<_}
-use native.Mathlib.Nat.{not-suc-le-zero}
+use mathlib.Core.Path.{_≡_}
+use mathlib.Core.List.{List}
+use Prim.Native.Nat.{ℕ, _*_, _≤_, _<_}
 use native.Mathlib.Omega.{arith}
 use native.Mathlib.Decide.{decLt}
-use lib.ListN.{getD, length}
+use lib.ListN.{length, List·getD-eq-default}
+use Rattle.parts.specs.Part.{Table, code-at, load-at}
 use Rattle.evaluator.specs.Columns.{Inside, Spelt, AllSpelt}
 
 pub spelt-inside : {b : List ℕ} {k x : ℕ} → Inside b x → Spelt b k x
@@ -14,14 +14,9 @@ spelt-inside h = record { atom = λ e. h; string = λ e. h }
 pub spelt-other : {b : List ℕ} {k x : ℕ} → ¬ (k ≡ 1) → ¬ (k ≡ 4) → Spelt b k x
 spelt-other n m = record { atom = λ e. absurd (n e); string = λ e. absurd (m e) }
 
-past : (l : List ℕ) (p : ℕ) → length l ≤ p → getD l p 0 ≡ 0
-past [] p h = refl
-past (x ∷ l) zero h = absurd (not-suc-le-zero h)
-past (x ∷ l) (suc p) h = past l p (omega arith)
-
-pub all-spelt : (b kinds loads : List ℕ) (n : ℕ) → length kinds ≤ n → ((p : ℕ) → p < n → Spelt b (getD kinds p 0) (getD loads p 0)) → AllSpelt b kinds loads
-all-spelt b kinds loads n l f p = go (decLt p n)
+pub all-spelt : (t : Table) (n : ℕ) → length (t .cells) ≤ n * 4 → ((p : ℕ) → p < n → Spelt (t .bytes) (code-at t p) (load-at t p)) → AllSpelt t
+all-spelt t n l f p = go (decLt p n)
   where
-    go : Dec (p < n) → Spelt b (getD kinds p 0) (getD loads p 0)
+    go : Dec (p < n) → Spelt (t .bytes) (code-at t p) (load-at t p)
     go (yes h) = f p h
-    go (no h) = let e = past kinds p (omega arith) in spelt-other (λ q. omega arith) (λ q. omega arith)
+    go (no h) = let e : code-at t p ≡ 0 = List·getD-eq-default (t .cells) 0 (omega arith) in spelt-other (λ q. omega arith) (λ q. omega arith)

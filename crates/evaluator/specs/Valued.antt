@@ -5,14 +5,14 @@ use mathlib.Core.List.{List, _∷_}
 use Prim.Native.Nat.{ℕ, zero, suc, _+_, _-_, _≤_, _<_}
 use native.Mathlib.Nat.{not-suc-le-zero}
 use native.Mathlib.Omega.{arith}
-use lib.ListN.{getD, drop}
+use lib.ListN.{drop}
 use Rattle.paper_expressions.specs.Values as paper
 use Rattle.paper_expressions.specs.Clauses.{Clause}
 use Rattle.paper_expressions.specs.View.{View}
 use Rattle.paper_expressions.specs.Expressions.{Expr, Exprs}
 use Rattle.paper_expressions.specs.Evaluation.{Evaluates, Values, values-none, values-more}
 use Rattle.paper_expressions.specs.Laws.WithinLimits.{Modest, AllModest, none-modest, more-modest}
-use Rattle.parts.specs.Part.{Table, sizes, number-of, operands, HoldsAll, Ends, Within, Withins}
+use Rattle.parts.specs.Part.{Table, code-at, count-at, size-at, load-at, sizes, number-of, operands, Load, HoldsAll, Ends, Within, Withins}
 use Rattle.parts.specs.Operands.{ended, within-kids, nth-of, within-nth, Left, left-all, left-ends, left-step}
 use Rattle.values.specs.declared.value.Value.{Value}
 use Rattle.values.specs.Meaning.{meaningV}
@@ -70,7 +70,7 @@ module _ (t : Table) (c : Columns) (p n d : ℕ) where
   )
 
   -- the last that is left has the value v
-  pub going-on : (k q q′ : ℕ) (v : Value) (o o′ : Operands) → 0 < k → Going k q o → Valued t c q (d - 1) v → PutOf (k - 1) v o o′ → q′ ≡ q - getD (t .sizes) (q - 1) 0
+  pub going-on : (k q q′ : ℕ) (v : Value) (o o′ : Operands) → 0 < k → Going k q o → Valued t c q (d - 1) v → PutOf (k - 1) v o o′ → q′ ≡ q - size-at t (q - 1)
       → Going (k - 1) q′ o′
   going-on zero q q′ v o o′ z g f u y = absurd (not-suc-le-zero z)
   going-on (suc k) q q′ v o o′ z g f u y = λ τ T a es ws s b h m w ms hs.
@@ -97,12 +97,13 @@ module _ (t : Table) (c : Columns) (d : ℕ) where
   pub too-deep : (q : ℕ) (r : Value) → d ≡ 0 → Valued t c q d r
   too-deep q r z τ T e cs w s h i m ev = absurd (let x = within-kids e i .0 in omega arith)
 
-  pub by-leaf : (q k : ℕ) (r : Value) → k ≡ getD (t .kinds) (q - 1) 0 → k < 5 → LeafOf (t .bytes) (c .names) (c .tags) (c .cells) k (getD (t .loads) (q - 1) 0) r → Valued t c q d r
-  by-leaf q k r y l f τ T e cs w s h i m ev =
+  pub by-leaf : (q k x : ℕ) (r : Value) → k ≡ code-at t (q - 1) → k < 5 → x ≡ load-at t (q - 1) → LeafOf (t .bytes) (c .names) (c .tags) (c .nums) k x r → Valued t c q d r
+  by-leaf q k x r y l z f τ T e cs w s h i m ev =
       let o = ended h .root in
-      f τ T e cs w (s .apart) (s .items) (subst (λ (j : ℕ). Spelt (t .bytes) j (getD (t .loads) (q - 1) 0)) (sym y) (s .texts (q - 1))) (y ∙ o .kinds) l (o .loads) m ev
+      let u = subst (λ (j : ℕ). Spelt (t .bytes) j (load-at t (q - 1))) (sym y) (s .texts (q - 1)) in
+      f τ T e cs w (s .apart) (s .items) (subst (Spelt (t .bytes) k) (sym z) u) (y ∙ o .kinds) l (subst (Load (t .bytes) e) (sym z) (o .loads)) m ev
 
-  pub by-operands : (q k n : ℕ) (r : Value) (o : Operands) → k ≡ getD (t .kinds) (q - 1) 0 → ¬ (k < 5) → n ≡ getD (t .counts) (q - 1) 0
+  pub by-operands : (q k n : ℕ) (r : Value) (o : Operands) → k ≡ code-at t (q - 1) → ¬ (k < 5) → n ≡ count-at t (q - 1)
       → Gathered t c (q - 1) n d o → CompoundOf (t .bytes) (c .tasks) (c .states) k n o r → Valued t c q d r
   by-operands q k n r o y l z g f τ T e cs w s h i m ev =
       let x = ended h in

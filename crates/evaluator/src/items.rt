@@ -3,7 +3,6 @@
 // Of the others it is 1 for a truth value, 2 integer, 3 real, 4 text; any other is unknown.
 ghost use mathlib.Core.Path.{_≡_};
 ghost use Prim.Native.Nat.{_≤_};
-ghost use lib.ListN.{getD};
 ghost use Rattle.evaluator.specs.Columns.{scalarAt, cellAt, ElementsOf, ItemOf};
 use super::operands;
 use numbers::Wide;
@@ -11,57 +10,57 @@ use values::List;
 use values::Scalar;
 use values::Value;
 
-// The value with that tag and the number at `p`.
-pub fn scalar(tag: u8, col: &[u32], p: usize) -> Scalar
-    ensures { λ r. ⌜ r ≡ scalarAt tag (getD (now (col .entry)) p 0) ⌝ }
+// The value with that tag and the number `x`.
+pub fn scalar(tag: usize, x: u32) -> Scalar
+    ensures { λ r. ⌜ r ≡ scalarAt tag x ⌝ }
 {
     match tag {
-        1 => Scalar::Truth(parts::number(col, p) == 1),
+        1 => Scalar::Truth(x == 1),
         2 => values::integer(Wide {
-            z: parts::literal(col, p),
+            z: parts::literal(x),
         }),
         3 => values::real(Wide {
-            z: parts::literal(col, p),
+            z: parts::literal(x),
         }),
-        4 => Scalar::Text(apply::handle(parts::number(col, p))),
+        4 => Scalar::Text(apply::handle(x as usize)),
         _ => Scalar::Unknown,
     }
 }
 
-fn cell(tags: &[u8], cells: &[u32], p: usize) -> Scalar
-    ensures { λ r. ⌜ r ≡ cellAt (now (tags .entry)) (now (cells .entry)) p ⌝ }
+fn cell(tags: &[u32], nums: &[u32], p: usize) -> Scalar
+    ensures { λ r. ⌜ r ≡ cellAt (now (tags .entry)) (now (nums .entry)) p ⌝ }
 {
-    scalar(parts::byte(tags, p), cells, p)
+    scalar(parts::number(tags, p), parts::word(nums, p))
 }
 
 // The list of the `n` cells from `p` on, made from the last to the first.
-fn elements(tags: &[u8], cells: &[u32], p: usize, n: usize) -> List
+fn elements(tags: &[u32], nums: &[u32], p: usize, n: usize) -> List
     requires { ⌜ (p ≤ 2000000) × (n ≤ 16) ⌝ }
-    ensures { λ r. ⌜ ElementsOf (now (tags .entry)) (now (cells .entry)) p n r ⌝ }
+    ensures { λ r. ⌜ ElementsOf (now (tags .entry)) (now (nums .entry)) p n r ⌝ }
 {
     let mut l = operands::blank(n);
     let mut k = n;
     while 0 < k {
         k -= 1;
-        l = operands::put_at(l, k, cell(tags, cells, p + k));
+        l = operands::put_at(l, k, cell(tags, nums, p + k));
     }
     l
 }
 
 // The value of the i-th data item.
-pub fn value(tags: &[u8], cells: &[u32], i: usize) -> Value
-    ensures { λ r. ⌜ ItemOf (now (tags .entry)) (now (cells .entry)) i r ⌝ }
+pub fn value(tags: &[u32], nums: &[u32], i: usize) -> Value
+    ensures { λ r. ⌜ ItemOf (now (tags .entry)) (now (nums .entry)) i r ⌝ }
 {
     if 65536 <= i {
         return values::single(Scalar::Unknown);
     }
     let p = 17 * i;
-    let shape = parts::byte(tags, p) as usize;
+    let shape = parts::number(tags, p);
     if shape == 0 {
-        return values::single(cell(tags, cells, p + 1));
+        return values::single(cell(tags, nums, p + 1));
     }
     if 17 < shape {
         return values::single(Scalar::Unknown);
     }
-    values::many(elements(tags, cells, p + 1, shape - 1))
+    values::many(elements(tags, nums, p + 1, shape - 1))
 }

@@ -1,5 +1,5 @@
 // The evaluator: the value of the expression that the part table holds up to a place, by sections 9 and 11.
-// The values of the data items and the states of the tasks are lent, as columns of numbers.
+// The values of the data items and the states of the tasks are lent, as slices of numbers.
 // Nothing is asked of the tables: on any contents the evaluator ends and does nothing undefined.
 mod items;
 mod leaves;
@@ -7,6 +7,7 @@ mod operands;
 pub mod texts;
 
 use operands::Operands;
+use parts::Code;
 use values::Scalar;
 use values::Value;
 ghost use Prim.Native.Nat.{_<_};
@@ -17,10 +18,17 @@ ghost use Rattle.evaluator.specs.Valued.{Valued, Gathered};
 ghost use Rattle.evaluator.specs.Published.{Published};
 
 // A list or an application, from its operands.
-fn compound(bytes: &[u8], tasks: &[u32], states: &[u8], kind: u8, n: usize, o: Operands) -> Value
+fn compound(
+    bytes: &[u8],
+    tasks: &[u32],
+    states: &[u32],
+    kind: usize,
+    n: usize,
+    o: Operands,
+) -> Value
     ensures { λ r. ⌜ CompoundOf (now (bytes .entry)) (now (tasks .entry)) (now (states .entry)) kind n o r ⌝ }
 {
-    if kind == 5 {
+    if kind == Code::LIST {
         let list = o.list;
         return values::many(list);
     }
@@ -32,64 +40,45 @@ fn compound(bytes: &[u8], tasks: &[u32], states: &[u8], kind: u8, n: usize, o: O
 
 // The values of the `n` operands that end at `p`, from the last to the first, each evaluated once.
 fn gather(
-    kinds: &[u8],
-    counts: &[u32],
-    sizes: &[u32],
-    loads: &[u32],
+    cells: &[u32],
     bytes: &[u8],
     names: &[u32],
-    tags: &[u8],
-    cells: &[u32],
+    tags: &[u32],
+    nums: &[u32],
     tasks: &[u32],
-    states: &[u8],
+    states: &[u32],
     p: usize,
     n: usize,
     depth: usize,
 ) -> Operands
     requires { ⌜ 0 < depth ⌝ }
-    ensures { λ r. ⌜ Gathered (table (now (kinds .entry)) (now (counts .entry)) (now (sizes .entry)) (now (loads .entry)) (now (bytes .entry))) (columns (now (names .entry)) (now (tags .entry)) (now (cells .entry)) (now (tasks .entry)) (now (states .entry))) p n depth r ⌝ }
+    ensures { λ r. ⌜ Gathered (table (now (cells .entry)) (now (bytes .entry))) (columns (now (names .entry)) (now (tags .entry)) (now (nums .entry)) (now (tasks .entry)) (now (states .entry))) p n depth r ⌝ }
 {
     let mut o = operands::none(n);
     let mut q = p;
     let mut k = n;
     while 0 < k {
         k -= 1;
-        let v = part_value(
-            kinds,
-            counts,
-            sizes,
-            loads,
-            bytes,
-            names,
-            tags,
-            cells,
-            tasks,
-            states,
-            q,
-            depth - 1,
-        );
+        let v = part_value(cells, bytes, names, tags, nums, tasks, states, q, depth - 1);
         o = operands::put(k, v, o);
-        q = parts::back(sizes, q);
+        q = parts::back(cells, q);
     }
     o
 }
 
 // The value of the expression whose parts end before `end`, if it is at most `depth` deep.
 fn part_value(
-    kinds: &[u8],
-    counts: &[u32],
-    sizes: &[u32],
-    loads: &[u32],
+    cells: &[u32],
     bytes: &[u8],
     names: &[u32],
-    tags: &[u8],
-    cells: &[u32],
+    tags: &[u32],
+    nums: &[u32],
     tasks: &[u32],
-    states: &[u8],
+    states: &[u32],
     end: usize,
     depth: usize,
 ) -> Value
-    ensures { λ r. ⌜ Valued (table (now (kinds .entry)) (now (counts .entry)) (now (sizes .entry)) (now (loads .entry)) (now (bytes .entry))) (columns (now (names .entry)) (now (tags .entry)) (now (cells .entry)) (now (tasks .entry)) (now (states .entry))) end depth r ⌝ }
+    ensures { λ r. ⌜ Valued (table (now (cells .entry)) (now (bytes .entry))) (columns (now (names .entry)) (now (tags .entry)) (now (nums .entry)) (now (tasks .entry)) (now (states .entry))) end depth r ⌝ }
 {
     if end == 0 {
         return values::single(Scalar::Unknown);
@@ -98,60 +87,30 @@ fn part_value(
         return values::single(Scalar::Unknown);
     }
     let p = end - 1;
-    let kind = parts::byte(kinds, p);
-    if kind < 5 {
-        return leaves::leaf(kind, loads, p, bytes, names, tags, cells);
+    let kind = parts::code(cells, p);
+    if kind < Code::LIST {
+        return leaves::leaf(kind, parts::load(cells, p), bytes, names, tags, nums);
     }
-    let n = parts::number(counts, p);
-    let o = gather(
-        kinds,
-        counts,
-        sizes,
-        loads,
-        bytes,
-        names,
-        tags,
-        cells,
-        tasks,
-        states,
-        p,
-        n,
-        depth,
-    );
+    let n = parts::count(cells, p);
+    let o = gather(cells, bytes, names, tags, nums, tasks, states, p, n, depth);
     compound(bytes, tasks, states, kind, n, o)
 }
 
 // The value of the expression of a task whose parts end before `end`, if it is at most `depth` deep.
 // The task is for what reads it: parameters (9.5, 1), which are left out.
 pub fn value_of(
-    kinds: &[u8],
-    counts: &[u32],
-    sizes: &[u32],
-    loads: &[u32],
+    cells: &[u32],
     bytes: &[u8],
     names: &[u32],
-    tags: &[u8],
-    cells: &[u32],
+    tags: &[u32],
+    nums: &[u32],
     tasks: &[u32],
-    states: &[u8],
+    states: &[u32],
     task: usize,
     end: usize,
     depth: usize,
 ) -> Value
-    ensures { λ r. ⌜ Published (table (now (kinds .entry)) (now (counts .entry)) (now (sizes .entry)) (now (loads .entry)) (now (bytes .entry))) (columns (now (names .entry)) (now (tags .entry)) (now (cells .entry)) (now (tasks .entry)) (now (states .entry))) task end depth r ⌝ }
+    ensures { λ r. ⌜ Published (table (now (cells .entry)) (now (bytes .entry))) (columns (now (names .entry)) (now (tags .entry)) (now (nums .entry)) (now (tasks .entry)) (now (states .entry))) task end depth r ⌝ }
 {
-    part_value(
-        kinds,
-        counts,
-        sizes,
-        loads,
-        bytes,
-        names,
-        tags,
-        cells,
-        tasks,
-        states,
-        end,
-        depth,
-    )
+    part_value(cells, bytes, names, tags, nums, tasks, states, end, depth)
 }

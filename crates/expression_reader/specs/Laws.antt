@@ -21,13 +21,13 @@ use Rattle.paper_guideline.specs.Refusals.{TokenBreach, TooManyOpen, one-too-ma
 use Rattle.paper_tokens.specs.Laws.TerminalLaws.{terminalF, terminal-is, atom-kind}
 use Rattle.parts.specs.Codes.{kind}
 use Rattle.parts.specs.Operands.{size-pos}
-use Rattle.parts.specs.Part.{size, sizes, number-of, Root, Holds, HoldsAll}
+use Rattle.parts.specs.Part.{table, size, sizes, number-of, Root, Holds, HoldsAll}
 use Rattle.leaves.specs.declared.Word.{Word}
 use Rattle.leaves.specs.Source.{Source, Here, Stand, Clean}
 use Rattle.leaves.specs.Leaf.{Leaf, Says, SaysFunctor, SaysLeaf, SaysHead, Read, atom-range}
 use Rattle.leaves.specs.Leaf as L
 use Rattle.expression_steps.specs.declared.Built.{Built}
-use Rattle.expression_steps.specs.Rows.{rows, Beside, Put, holds-kept, all-kept, beside-on, put-root}
+use Rattle.expression_steps.specs.Rows.{Beside, Put, holds-kept, all-kept, beside-on, put-root}
 use Rattle.expression_steps.specs.Levels.{kindAt, kindOf, stand-kind, stand-length}
 use Rattle.expression_steps.specs.Views.{First, one-token, round, square, call, first-token, leaf-kind, no-tree, some-shorter, round-ends}
 use Rattle.expression_steps.specs.Larger.{larger-none, tree-deep, minuses-depth, minuses-longest}
@@ -87,11 +87,11 @@ leaf-measures (L.a-float q) = (refl, refl, refl)
 leaf-measures (L.a-string q) = (refl, refl, refl)
 
 leaf-held : {t : Token} {e : Expr} {x y : List ℕ} (text : List ℕ) (u : ℕ) (w : Word) → u < part-limit → u + 1 - u ≡ 1 → Leaf t e → Says text e w → Put x y u (w .kind) 0 (u + 1 - u) (w .load)
-    → Holds (rows y text) u (bare e)
-leaf-held text u w h o (L.an-atom q) s p = put-root text _ u (w .kind) 0 (u + 1 - u) (w .load) h p (s .kind) refl o (s .load)
-leaf-held text u w h o (L.an-integer q) s p = put-root text _ u (w .kind) 0 (u + 1 - u) (w .load) h p (s .kind) refl o (s .load)
-leaf-held text u w h o (L.a-float q) s p = put-root text _ u (w .kind) 0 (u + 1 - u) (w .load) h p (s .kind) refl o (s .load)
-leaf-held text u w h o (L.a-string q) s p = put-root text _ u (w .kind) 0 (u + 1 - u) (w .load) h p (s .kind) refl o (s .load)
+    → Holds (table y text) u (bare e)
+leaf-held text u w h o (L.an-atom q) s p = put-root text _ u (w .kind) 0 (u + 1 - u) (w .load) p (s .kind) refl o (s .load)
+leaf-held text u w h o (L.an-integer q) s p = put-root text _ u (w .kind) 0 (u + 1 - u) (w .load) p (s .kind) refl o (s .load)
+leaf-held text u w h o (L.a-float q) s p = put-root text _ u (w .kind) 0 (u + 1 - u) (w .load) p (s .kind) refl o (s .load)
+leaf-held text u w h o (L.a-string q) s p = put-root text _ u (w .kind) 0 (u + 1 - u) (w .load) p (s .kind) refl o (s .load)
 
 module _ {c : Source} {b d p : ℕ} {r : List Token} {t : Token} {e : Expr} (f : Standing c b d p (t ∷ r)) (l : Leaf t e) where
   pub single-kind : (95 ≤ kindAt (c .kinds) p) × (kindAt (c .kinds) p ≤ 100)
@@ -136,11 +136,11 @@ module _ {c : Source} {p at n : ℕ} {t : Token} (h : Here c p t) where
 -- ---- a bracket that closes
 
 group-held : {text : List ℕ} {es : Exprs} {e : Expr} {x y : List ℕ} {close : ℕ} (u w n s : ℕ) (h : Word) → w < part-limit → w ≡ u + sizes (bares es) → n ≡ number-of (bares es)
-    → s ≡ suc (sizes (bares es)) → Group es close e → Says text e h → HoldsAll (rows x text) u (bares es) → Beside w (w + 1) x y → Put x y w (h .kind) n s (h .load) → Holds (rows y text) u (bare e)
+    → s ≡ suc (sizes (bares es)) → Group es close e → Says text e h → HoldsAll (table x text) u (bares es) → Beside w (w + 1) x y → Put x y w (h .kind) n s (h .load) → Holds (table y text) u (bare e)
 group-held {text} {es} {x = x} {y} u w n s h g ew en es′ a-list says d b p =
-    (all-kept text (b .before) (bares es) u (omega arith) d, subst (λ (i : ℕ). Root (rows y text) i (Listing (bares es))) ew (put-root text (Listing (bares es)) w (h .kind) n s (h .load) g p (says .kind) en es′ (says .load)))
+    (all-kept text (b .before) (bares es) u (omega arith) d, subst (λ (i : ℕ). Root (table y text) i (Listing (bares es))) ew (put-root text (Listing (bares es)) w (h .kind) n s (h .load) p (says .kind) en es′ (says .load)))
 group-held {text} {es} {x = x} {y} u w n s h g ew en es′ (a-call {o = o}) says d b p =
-    (all-kept text (b .before) (bares es) u (omega arith) d, subst (λ (i : ℕ). Root (rows y text) i (Apply o (bares es))) ew (put-root text (Apply o (bares es)) w (h .kind) n s (h .load) g p (says .kind) en es′ (says .load)))
+    (all-kept text (b .before) (bares es) u (omega arith) d, subst (λ (i : ℕ). Root (table y text) i (Apply o (bares es))) ew (put-root text (Apply o (bares es)) w (h .kind) n s (h .load) p (says .kind) en es′ (says .load)))
 
 pub group-size : {es : Exprs} {e : Expr} {close : ℕ} → Group es close e → size (bare e) ≡ suc (sizes (bares es))
 group-size a-list = refl
@@ -226,7 +226,7 @@ module _ {c : Source} {x y : List ℕ} {a : Where} {b d p q u : ℕ} {r : List T
         held = λ t.
             let few = t .few in
             let room = t .room in
-            subst (λ (i : Expr). Holds (rows z (c .text)) u (bare i)) (sym (s .is)) (g .done (c .text) (s .inner) (i .held (sound-less (omega arith) (omega arith) refl t)) us (omega arith) (omega arith));
+            subst (λ (i : Expr). Holds (table z (c .text)) u (bare i)) (sym (s .is)) (g .done (c .text) (s .inner) (i .held (sound-less (omega arith) (omega arith) refl t)) us (omega arith) (omega arith));
       }
 
 -- ---- what stands in brackets

@@ -18,11 +18,11 @@ use Rattle.paper_guideline.specs.Tree.{Where, anywhere, assigned, Tree, Trees, 
 use Rattle.paper_guideline.specs.Refusals.{TooManyOpen}
 use Rattle.paper_tokens.specs.Laws.TerminalLaws.{terminal-is, one-terminal}
 use Rattle.paper_guideline.specs.Laws.TreeLaws.{Ends}
-use Rattle.parts.specs.Part.{size, sizes, Holds, HoldsAll}
+use Rattle.parts.specs.Part.{table, size, sizes, Holds, HoldsAll}
 use Rattle.leaves.specs.Source.{Source, Stand}
 use Rattle.expression_steps.specs.declared.Built.{Built}
 use Rattle.expression_steps.specs.declared.operators.Operand.{Operand}
-use Rattle.expression_steps.specs.Rows.{rows, Kept, Beside, holds-kept}
+use Rattle.expression_steps.specs.Rows.{Kept, Beside, holds-kept}
 use Rattle.expression_steps.specs.Levels.{levelOf, levelIn, kindAt, kindOf, stand-kind, stand-length, infix-no-bracket}
 use Rattle.expression_steps.specs.Views.{tree-first, After, at-close, at-comma, element, some-shorter, comma-ends, round-ends, square-ends}
 use Rattle.expression_steps.specs.Larger.{larger-zero, larger-assoc, trees-deep}
@@ -108,7 +108,7 @@ left-more {c} {z} {x} {y} {u = u} {n} {r = r} {e = e} {f} {es} {os} {fs} {m} {k}
       held = λ t v kp hs.
           let hf = dn .held (sound-less (omega arith) lr lg t) in (
           i .held t v (record { same = λ j h. kp .same j (omega arith) ∙ bs .before .same j h })
-          (holds-kept (c .text) kp (bare f) (m .used) (omega arith) hf, subst (λ (j : ℕ). HoldsAll (rows v (c .text)) j (bares fs)) (omega arith) hs)
+          (holds-kept (c .text) kp (bare f) (m .used) (omega arith) hf, subst (λ (j : ℕ). HoldsAll (table v (c .text)) j (bares fs)) (omega arith) hs)
           );
     }
 
@@ -212,7 +212,7 @@ module _ {c : Source} {z x y ks fs ds : List ℕ} {a : Where} {b d u n q w v : �
           used = s .used ∙ ap (λ (i : ℕ). i + size (bare (s .operand))) (f .start) ∙ ap (λ (i : Expr). u + size (bare i)) (f .tree);
           depth = s .deep ∙ ap depth (f .tree);
           longest = li ∙ s .longest ∙ ap (λ (i : ℕ). larger i (longest-list (s .operand))) (f .short) ∙ larger-zero (longest-list (s .operand)) ∙ ap longest-list (f .tree);
-          held = λ t. subst (λ (i : Expr). Holds (rows x′ (c .text)) u (bare i)) (f .tree) (subst (λ (i : ℕ). Holds (rows x′ (c .text)) i (bare (s .operand))) (f .start) (s .held t));
+          held = λ t. subst (λ (i : Expr). Holds (table x′ (c .text)) u (bare i)) (f .tree) (subst (λ (i : ℕ). Holds (table x′ (c .text)) i (bare (s .operand))) (f .start) (s .held t));
         }
 
     pub going-few : k .n < 7

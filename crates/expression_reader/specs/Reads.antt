@@ -13,10 +13,10 @@ use Rattle.paper_tokens.specs.Lexical.{Token}
 use Rattle.paper_guideline.specs.Tree.{Where, Tree}
 use Rattle.paper_guideline.specs.Laws.TreeLaws.{Ends}
 use Rattle.paper_guideline.specs.Refusals.{TooManyOpen}
-use Rattle.parts.specs.Part.{size, sizes, Holds, Within, Withins}
+use Rattle.parts.specs.Part.{table, size, sizes, Holds, Within, Withins}
 use Rattle.leaves.specs.Source.{Source, Stand, Clean}
 use Rattle.expression_steps.specs.declared.Built.{Built}
-use Rattle.expression_steps.specs.Rows.{rows, Beside}
+use Rattle.expression_steps.specs.Rows.{Beside}
 use Rattle.expression_steps.specs.Levels.{stand-length}
 use Rattle.expression_steps.specs.Larger.{first-larger, second-larger}
 use Rattle.expression_steps.specs.Made.{Went, Tidy, Sound, ReadsExpression}
@@ -28,7 +28,7 @@ pub record Whole (c : Source) (x y : List ℕ) (u : ℕ) (r : List Token) (e : E
   pub used : m .used ≡ u + parts e
   pub depth : m .depth ≡ depth e
   pub longest : m .longest ≡ longest-list e
-  pub held : Clean c r → length (c .text) ≤ text-limit → u + parts e ≤ part-limit → (u + parts e) * 4 ≤ length x → Holds (rows y (c .text)) u (bare e)
+  pub held : Clean c r → length (c .text) ≤ text-limit → u + parts e ≤ part-limit → (u + parts e) * 4 ≤ length x → Holds (table y (c .text)) u (bare e)
 
 pub record Reads (a : Where) (c : Source) (x y : List ℕ) (p u : ℕ) (m : Built) : Type 0 where
   pub onward : m .ok ≡ true → Went x y p u m

@@ -10,12 +10,12 @@ use Rattle.paper_guideline.specs.Limits.{text-limit, larger, depth, count, deep
 use Rattle.paper_tokens.specs.Lexical.{Token, atom}
 use Rattle.paper_tokens.specs.Terminals.{Terminal, name}
 use Rattle.paper_guideline.specs.Refusals.{TokenBreach, TooManyOpen}
-use Rattle.parts.specs.Part.{sizes, HoldsAll}
+use Rattle.parts.specs.Part.{table, sizes, HoldsAll}
 use Rattle.leaves.specs.declared.Word.{Word}
 use Rattle.leaves.specs.Source.{Source, source, Here, Stand}
 use Rattle.leaves.specs.Leaf.{Leaf, Says, SaysFunctor}
 use Rattle.expression_steps.specs.declared.Built.{Built}
-use Rattle.expression_steps.specs.Rows.{rows, Kept, Beside}
+use Rattle.expression_steps.specs.Rows.{Kept, Beside}
 use Rattle.expression_steps.specs.Levels.{kindAt}
 use Rattle.expression_steps.specs.Made.{Standing, Fit, Done, Onward, Group, Heads}
 
@@ -58,7 +58,7 @@ pub record Left (c : Source) (z y : List ℕ) (r : List Token) (e : Expr) (u : �
   pub used : u + sizes (bares es) ≡ m .used + sizes (bares fs)
   pub depth : deepest es ≡ larger (m .depth) (deepest fs)
   pub longest : longest-lists es ≡ larger (m .longest) (longest-lists fs)
-  pub held : Fit c z r e u → (v : List ℕ) → Kept (m .used) y v → HoldsAll (rows v (c .text)) (m .used) (bares fs) → HoldsAll (rows v (c .text)) u (bares es)
+  pub held : Fit c z r e u → (v : List ℕ) → Kept (m .used) y v → HoldsAll (table v (c .text)) (m .used) (bares fs) → HoldsAll (table v (c .text)) u (bares es)
 
 -- the next token closes n elements in the rows from u on
 pub record Closes (ks x y : List ℕ) (u : ℕ) (s : Built) (n close : ℕ) (h : Word) (m : Built) : Type 0 where

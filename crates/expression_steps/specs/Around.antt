@@ -21,9 +21,9 @@ use Rattle.paper_guideline.specs.Tree
 use Tree.{infixes, Where, MayStand, Tree, infix-operator, looser, unary-minus, an-atom, an-integer, a-float, a-string, parentheses, a-list, a-call}
 use Rattle.paper_tokens.specs.Laws.TerminalLaws.{terminalF, terminal-is}
 use Rattle.paper_guideline.specs.Laws.TreeLaws.{Ends, shorter}
-use Rattle.parts.specs.Part.{size, Holds}
+use Rattle.parts.specs.Part.{table, size, Holds}
 use Rattle.leaves.specs.Source.{Source}
-use Rattle.expression_steps.specs.Rows.{rows, Kept, holds-kept}
+use Rattle.expression_steps.specs.Rows.{Kept, holds-kept}
 use Rattle.expression_steps.specs.Levels.{levelOf, levelIn, kindOf, infix-is, infix-no-bracket, may-level, list-ends, list-no-call}
 use Rattle.expression_steps.specs.Larger.{larger-none, first-larger, second-larger}
 use Rattle.expression_steps.specs.Made.{Fit, Around, whole, held-looser, on-left, on-right}
@@ -49,7 +49,7 @@ pub record Applied (c : Source) (z x ks fs ds : List ℕ) (a : Where) (r : List 
   pub deep : getD ds n 0 ≡ depth left
   pub spans : p ≡ start + size (bare left)
   pub longest : y ≡ larger y′ (longest-list left)
-  pub held : Fit c z r e u → Holds (rows x (c .text)) start (bare left)
+  pub held : Fit c z r e u → Holds (table x (c .text)) start (bare left)
   pub around : Around c z x ks fs ds a r e u n start y′ l m (Apply op (left ▸ f ▸ ε))
 
 -- f is the whole
@@ -205,7 +205,7 @@ around-set {ks = ks} {fs = fs} {ds = ds} h i j k b (on-right {n = n} y w d g t s
 
 -- the operator of terminal k waits, with its left operand f, of depth d, in the rows from p on
 pub push : {c : Source} {z x ks fs ds : List ℕ} {a : Where} {r : List Token} {e : Expr} {u n p y l k : ℕ} {o : Op} {w m : List Token} {f g : Expr} (d : ℕ)
-    → n < length ks → n < length fs → n < length ds → List·Memᴰ (l, k, o) infixes → d ≡ depth f → (Fit c z r e u → Holds (rows x (c .text)) p (bare f)) → Tree a (suc l) w m g
+    → n < length ks → n < length fs → n < length ds → List·Memᴰ (l, k, o) infixes → d ≡ depth f → (Fit c z r e u → Holds (table x (c .text)) p (bare f)) → Tree a (suc l) w m g
     → Around c z x ks fs ds a r e u n p y l m (Apply o (f ▸ g ▸ ε)) → First c z x (set ks n k) (set fs n p) (set ds n d) a r e u (n + 1) (p + size (bare f)) (larger y (longest-list f)) w
 push {c} {z} {x} {ks} {fs} {ds} {a} {r} {e} {u} {n} {p} {y} {k = k} {w = w} {f = f} d j1 j2 j3 i h hd t s =
     let b = infix-is i .few in

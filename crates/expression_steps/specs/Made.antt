@@ -14,13 +14,13 @@ use Rattle.paper_tokens.specs.Terminals.{Terminal}
 use Rattle.paper_guideline.specs.Tree.{infixes, Where, MayStand, Tree, Trees}
 use Rattle.paper_guideline.specs.Laws.TreeLaws.{Ends}
 use Rattle.paper_guideline.specs.Refusals.{TooManyOpen}
-use Rattle.parts.specs.Part.{size, Holds}
+use Rattle.parts.specs.Part.{table, size, Holds}
 use Rattle.leaves.specs.declared.Word.{Word}
 use Rattle.leaves.specs.Leaf.{Says}
 use Rattle.leaves.specs.Source.{Source, source, Stand, Clean}
 use Rattle.expression_steps.specs.declared.Built.{Built}
 use Rattle.expression_steps.specs.declared.operators.Operand.{Operand}
-use Rattle.expression_steps.specs.Rows.{rows, Beside, Put}
+use Rattle.expression_steps.specs.Rows.{Beside, Put}
 use Rattle.expression_steps.specs.Levels.{levelOf, levelIn, kindOf}
 
 -- the tokens from p on are w; with b brackets open before them and d more allowed, no limit on brackets is passed
@@ -48,7 +48,7 @@ pub record Done (c : Source) (x y : List ℕ) (b u : ℕ) (r : List Token) (e : 
   pub used : m .used ≡ u + size (bare e)
   pub depth : m .depth ≡ depth e
   pub longest : m .longest ≡ longest-list e
-  pub held : Sound c x (u + size (bare e)) r → Holds (rows y (c .text)) u (bare e)
+  pub held : Sound c x (u + size (bare e)) r → Holds (table y (c .text)) u (bare e)
 
 -- what is accepted has a token, no more parts than tokens, and changes no other row
 pub record Went (x y : List ℕ) (p u : ℕ) (m : Built) : Type 0 where
@@ -110,8 +110,8 @@ pub record TakesMinuses (ks : List ℕ) (p q : ℕ) : Type 0 where
 -- m minuses are put on what the rows from u up to v hold
 pub record Negates (x y : List ℕ) (u v m : ℕ) : Type 0 where
   pub beside : Beside v (v + m) x y
-  pub done : (text : List ℕ) (e : Expr) → Holds (rows x text) u (bare e) → v ≡ u + size (bare e) → v + m ≤ part-limit → (v + m) * 4 ≤ length x
-      → Holds (rows y text) u (bare (minuses m e))
+  pub done : (text : List ℕ) (e : Expr) → Holds (table x text) u (bare e) → v ≡ u + size (bare e) → v + m ≤ part-limit → (v + m) * 4 ≤ length x
+      → Holds (table y text) u (bare (minuses m e))
 
 -- ---- operators that wait
 
@@ -131,7 +131,7 @@ pub data Around (c : Source) (z x ks fs ds : List ℕ) (a : Where) (r : List Tok
       → Around c z x ks fs ds a r e u n p y l s (Apply o (f ▸ g ▸ ε)) → Around c z x ks fs ds a r e u n p y l (t ∷ m) f
   -- it is the right operand of the last operator that waits
   on-right : {n p y l k : ℕ} {o : Op} {m : List Token} {f g : Expr}
-      → List·Memᴰ (l, k, o) infixes → getD ks n 0 ≡ k → getD fs n 0 ≡ p → getD ds n 0 ≡ depth f → (Fit c z r e u → Holds (rows x (c .text)) p (bare f))
+      → List·Memᴰ (l, k, o) infixes → getD ks n 0 ≡ k → getD fs n 0 ≡ p → getD ds n 0 ≡ depth f → (Fit c z r e u → Holds (table x (c .text)) p (bare f))
       → Around c z x ks fs ds a r e u n p y l m (Apply o (f ▸ g ▸ ε))
       → Around c z x ks fs ds a r e u (suc n) (p + size (bare f)) (larger y (longest-list f)) (suc l) m g
 
@@ -144,7 +144,7 @@ pub record Settled (c : Source) (z x ks fs ds : List ℕ) (a : Where) (r : List 
   pub used : o .used ≡ o .from + size (bare operand)
   pub deep : o .depth ≡ depth operand
   pub longest : v ≡ larger y (longest-list operand)
-  pub held : Fit c z r e u → Holds (rows x (c .text)) (o .from) (bare operand)
+  pub held : Fit c z r e u → Holds (table x (c .text)) (o .from) (bare operand)
 
 -- the operators that wait and are not looser than l are applied
 abbrev pub Settles : List ℕ → List ℕ → List ℕ → List ℕ → List ℕ → Operand → ℕ → ℕ → Operand → Type 0

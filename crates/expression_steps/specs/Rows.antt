@@ -1,27 +1,14 @@
--- Parts as rows of four cells: kind, number of operands, size and load. When such rows are a part table, and what writing a row keeps.
+-- Parts as rows of four cells: what writing a row does, and what it keeps.
 -- Law: what a table holds, a table with the same rows before it holds too. By induction on the expression.
-use Prim.Native.Nat.{ℕ, zero, suc, _+_, _*_, _-_, _≤_, _<_}
+use Prim.Native.Nat.{ℕ, suc, _+_, _*_, _≤_, _<_}
 use mathlib.Core.Path.{_≡_, refl, sym, subst, _∙_}
-use mathlib.Core.List.{List, [], _∷_}
-use native.Mathlib.Nat.{not-suc-le-zero}
+use mathlib.Core.List.{List}
 use native.Mathlib.Omega.{arith}
 use lib.ListN.{getD, length, set, length-set}
 use lib.Seq.{getD-set-same, getD-set-other}
 use Rattle.paper_expressions.specs.Expressions.{Expr, Exprs, Atom, IntegerLit, FloatLit, StringLit, Paren, Listing, Apply, ε, _▸_}
-use Rattle.paper_guideline.specs.Limits.{part-limit}
 use Rattle.parts.specs.Codes.{kind}
-use Rattle.parts.specs.Part.{Table, table, size, sizes, number-of, operands, Load, Root, Holds, HoldsAll}
-
--- f 0, f 1, .., n of them
-unfoldable pub column : ℕ → (ℕ → ℕ) → List ℕ
-column zero f = []
-column (suc n) f = f 0 ∷ column n (λ i. f (suc i))
-
--- the rows of x as a table whose texts are in b
-abbrev pub rows : List ℕ → List ℕ → Table
-rows x b =
-    table (column part-limit (λ p. getD x (p * 4) 0)) (column part-limit (λ p. getD x (p * 4 + 1) 0)) (column part-limit (λ p. getD x (p * 4 + 2) 0))
-    (column part-limit (λ p. getD x (p * 4 + 3) 0)) b
+use Rattle.parts.specs.Part.{table, size, sizes, number-of, operands, Load, Root, Holds, HoldsAll}
 
 -- the rows of y before n are those of x
 pub record Kept (n : ℕ) (x y : List ℕ) : Type 0 where
@@ -42,30 +29,18 @@ pub record Put (x y : List ℕ) (v k n s l : ℕ) : Type 0 where
 
 -- ---- laws
 
-column-at : (n : ℕ) (f : ℕ → ℕ) (i : ℕ) → i < n → getD (column n f) i 0 ≡ f i
-unfolding column
-column-at zero f i h = absurd (not-suc-le-zero h)
-column-at (suc n) f zero h = refl
-column-at (suc n) f (suc i) h = column-at n (λ j. f (suc j)) i (omega arith)
-
-column-same : (n : ℕ) (f g : ℕ → ℕ) (i : ℕ) → g i ≡ f i → getD (column n g) i 0 ≡ getD (column n f) i 0
-unfolding column
-column-same zero f g i h = refl
-column-same (suc n) f g zero h = h
-column-same (suc n) f g (suc i) h = column-same n (λ j. f (suc j)) (λ j. g (suc j)) i h
-
 -- the rows before n stay
 module _ {n : ℕ} {x y : List ℕ} (b : List ℕ) (k : Kept n x y) where
-  root-kept : (e : Expr) (p : ℕ) → p < n → Root (rows x b) p e → Root (rows y b) p e
+  root-kept : (e : Expr) (p : ℕ) → p < n → Root (table x b) p e → Root (table y b) p e
   root-kept e p h r = record {
-    kinds = column-same part-limit (λ p. getD x (p * 4) 0) (λ p. getD y (p * 4) 0) p (k .same (p * 4) (omega arith)) ∙ r .kinds;
-    counts = column-same part-limit (λ p. getD x (p * 4 + 1) 0) (λ p. getD y (p * 4 + 1) 0) p (k .same (p * 4 + 1) (omega arith)) ∙ r .counts;
-    sizes = column-same part-limit (λ p. getD x (p * 4 + 2) 0) (λ p. getD y (p * 4 + 2) 0) p (k .same (p * 4 + 2) (omega arith)) ∙ r .sizes;
-    loads = subst (Load b e) (sym (column-same part-limit (λ p. getD x (p * 4 + 3) 0) (λ p. getD y (p * 4 + 3) 0) p (k .same (p * 4 + 3) (omega arith)))) (r .loads);
+    kinds = k .same (p * 4) (omega arith) ∙ r .kinds;
+    counts = k .same (p * 4 + 1) (omega arith) ∙ r .counts;
+    sizes = k .same (p * 4 + 2) (omega arith) ∙ r .sizes;
+    loads = subst (Load b e) (sym (k .same (p * 4 + 3) (omega arith))) (r .loads);
   }
 
   mutual
-    pub holds-kept : (e : Expr) (a : ℕ) → a + size e ≤ n → Holds (rows x b) a e → Holds (rows y b) a e
+    pub holds-kept : (e : Expr) (a : ℕ) → a + size e ≤ n → Holds (table x b) a e → Holds (table y b) a e
     holds-kept (Atom m) a h r = root-kept (Atom m) a (omega arith) r
     holds-kept (IntegerLit m) a h r = root-kept (IntegerLit m) a (omega arith) r
     holds-kept (FloatLit m) a h r = root-kept (FloatLit m) a (omega arith) r
@@ -74,7 +49,7 @@ module _ {n : ℕ} {x y : List ℕ} (b : List ℕ) (k : Kept n x y) where
     holds-kept (Listing es) a h r = (all-kept es a (omega arith) (r .0), root-kept (Listing es) (a + sizes es) (omega arith) (r .1))
     holds-kept (Apply o es) a h r = (all-kept es a (omega arith) (r .0), root-kept (Apply o es) (a + sizes es) (omega arith) (r .1))
 
-    pub all-kept : (es : Exprs) (a : ℕ) → a + sizes es ≤ n → HoldsAll (rows x b) a es → HoldsAll (rows y b) a es
+    pub all-kept : (es : Exprs) (a : ℕ) → a + sizes es ≤ n → HoldsAll (table x b) a es → HoldsAll (table y b) a es
     all-kept ε a h r = tt
     all-kept (e ▸ es) a h r = (holds-kept e a (omega arith) (r .0), all-kept es (a + size e) (omega arith) (r .1))
 
@@ -100,14 +75,9 @@ beside-more u v w h f = record { long = f .long; before = f .before; behind = λ
 -- ---- writing a row
 
 -- a row that is written is the last part of e
-pub put-root : {x y : List ℕ} (b : List ℕ) (e : Expr) (v k n s l : ℕ) → v < part-limit → Put x y v k n s l
-    → k ≡ kind e → n ≡ number-of (operands e) → s ≡ suc (sizes (operands e)) → Load b e l → Root (rows y b) v e
-put-root {x} {y} b e v k n s l h p ke ne se le = record {
-  kinds = column-at part-limit (λ p. getD y (p * 4) 0) v h ∙ p .kinds ∙ ke;
-  counts = column-at part-limit (λ p. getD y (p * 4 + 1) 0) v h ∙ p .counts ∙ ne;
-  sizes = column-at part-limit (λ p. getD y (p * 4 + 2) 0) v h ∙ p .sizes ∙ se;
-  loads = subst (Load b e) (sym (column-at part-limit (λ p. getD y (p * 4 + 3) 0) v h ∙ p .loads)) le;
-}
+pub put-root : {x y : List ℕ} (b : List ℕ) (e : Expr) (v k n s l : ℕ) → Put x y v k n s l
+    → k ≡ kind e → n ≡ number-of (operands e) → s ≡ suc (sizes (operands e)) → Load b e l → Root (table y b) v e
+put-root b e v k n s l p ke ne se le = record { kinds = p .kinds ∙ ke; counts = p .counts ∙ ne; sizes = p .sizes ∙ se; loads = subst (Load b e) (sym (p .loads)) le }
 
 -- four stores write a row
 module _ (x : List ℕ) (v k n s l : ℕ) (h : v * 4 + 3 < length x) where

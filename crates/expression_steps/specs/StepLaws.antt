@@ -14,11 +14,11 @@ use Rattle.paper_guideline.specs.Tree.{Where, Tree}
 use Rattle.paper_guideline.specs.Refusals.{TooManyOpen, as-many-open, Opening, opens-round, opens-square, Closing, closes-round, closes-square}
 use Rattle.paper_tokens.specs.Laws.TerminalLaws.{terminalF, terminal-is}
 use Rattle.parts.specs.Codes.{code}
-use Rattle.parts.specs.Part.{size, Root, Holds}
+use Rattle.parts.specs.Part.{table, size, Root, Holds}
 use Rattle.leaves.specs.Source.{Source, Here, Stand, at-token}
 use Rattle.leaves.specs.Names.{known-load}
 use Rattle.expression_steps.specs.declared.operators.Operand.{Operand}
-use Rattle.expression_steps.specs.Rows.{rows, Beside, Put, holds-kept, beside-none, beside-on, put-root}
+use Rattle.expression_steps.specs.Rows.{Beside, Put, holds-kept, beside-none, beside-on, put-root}
 use Rattle.expression_steps.specs.Levels.{levelOf, kindAt, kindOf, codeOf, infix-is, stand-kind}
 use Rattle.expression_steps.specs.Views.{Minus, minus, no-minus, minus-of, no-minus-first}
 use Rattle.expression_steps.specs.Larger.{larger-none, larger-assoc}
@@ -100,18 +100,18 @@ minuses-size zero e = omega arith
 minuses-size (suc m) e = let i = minuses-size m e in omega arith
 
 minus-on : {x y : List ℕ} (b : List ℕ) (e : Expr) (u w s : ℕ) → w < part-limit → w ≡ u + size (bare e) → s ≡ w + 1 - u → Beside w (w + 1) x y → Put x y w 80 1 s 0
-    → Holds (rows x b) u (bare e) → Holds (rows y b) u (bare (Apply negate (e ▸ ε)))
+    → Holds (table x b) u (bare e) → Holds (table y b) u (bare (Apply negate (e ▸ ε)))
 minus-on {x} {y} b e u w s h k z g p d = (
   (holds-kept b (g .before) (bare e) u (omega arith) d, tt),
-  subst (λ (i : ℕ). Root (rows y b) i (bare (Apply negate (e ▸ ε)))) (omega arith)
-      (put-root b (bare (Apply negate (e ▸ ε))) w 80 1 s 0 h p refl refl (omega arith) refl),
+  subst (λ (i : ℕ). Root (table y b) i (bare (Apply negate (e ▸ ε)))) (omega arith)
+      (put-root b (bare (Apply negate (e ▸ ε))) w 80 1 s 0 p refl refl (omega arith) refl),
 )
 
 -- i of m minuses are put on what the rows from u up to v hold
 pub record Negated (x y : List ℕ) (u v m i : ℕ) : Type 0 where
   pub beside : Beside v (v + i) x y
-  pub done : (text : List ℕ) (e : Expr) → Holds (rows x text) u (bare e) → v ≡ u + size (bare e) → v + m ≤ part-limit → (v + m) * 4 ≤ length x
-      → Holds (rows y text) u (bare (minuses i e))
+  pub done : (text : List ℕ) (e : Expr) → Holds (table x text) u (bare e) → v ≡ u + size (bare e) → v + m ≤ part-limit → (v + m) * 4 ≤ length x
+      → Holds (table y text) u (bare (minuses i e))
 
 pub negated-none : (x : List ℕ) (u v m : ℕ) → Negated x x u v m 0
 negated-none x u v m = record { beside = beside-none v (v + 0) x; done = λ text e h k r g. h }
@@ -124,7 +124,7 @@ negated-more {x} {y} {y′} {u} {v} {m} {i} l s p = record {
       let n = minuses-size i e in
       let long = s .beside .long in
       let put = p .done (omega arith) (omega arith) (omega arith) (omega arith) in
-      subst (λ (j : ℕ). Holds (rows y′ text) u (bare (minuses j e))) (sym (add-one i)) (minus-on text (minuses i e) u (v + i) (v + i + 1 - u) (omega arith) (omega arith) refl (p .beside) put d);
+      subst (λ (j : ℕ). Holds (table y′ text) u (bare (minuses j e))) (sym (add-one i)) (minus-on text (minuses i e) u (v + i) (v + i + 1 - u) (omega arith) (omega arith) refl (p .beside) put d);
 }
 
 pub negated-done : {x y : List ℕ} {u v m i : ℕ} → i ≡ m → Negated x y u v m i → Negates x y u v m
@@ -133,11 +133,11 @@ negated-done {x} {y} {u} {v} {m} {i} l s = let z = subst (λ (j : ℕ). Negated 
 -- ---- an operator that waits is applied
 
 both-on : {x y : List ℕ} (b : List ℕ) (o : Op) (f g : Expr) (u v k s : ℕ) → v < part-limit → v ≡ u + size (bare f) + size (bare g) → s ≡ v + 1 - u → k ≡ code o → code o < 250
-    → Beside v (v + 1) x y → Put x y v k 2 s 0 → Holds (rows x b) u (bare f) → Holds (rows x b) (u + size (bare f)) (bare g) → Holds (rows y b) u (bare (Apply o (f ▸ g ▸ ε)))
+    → Beside v (v + 1) x y → Put x y v k 2 s 0 → Holds (table x b) u (bare f) → Holds (table x b) (u + size (bare f)) (bare g) → Holds (table y b) u (bare (Apply o (f ▸ g ▸ ε)))
 both-on {x} {y} b o f g u v k s h e z i l t p df dg = (
   (holds-kept b (t .before) (bare f) u (omega arith) df, (holds-kept b (t .before) (bare g) (u + size (bare f)) (omega arith) dg, tt)),
-  subst (λ (j : ℕ). Root (rows y b) j (bare (Apply o (f ▸ g ▸ ε)))) (omega arith)
-      (put-root b (bare (Apply o (f ▸ g ▸ ε))) v k 2 s 0 h p i refl (omega arith) (known-load b o 0 (λ q. omega arith) refl)),
+  subst (λ (j : ℕ). Root (table y b) j (bare (Apply o (f ▸ g ▸ ε)))) (omega arith)
+      (put-root b (bare (Apply o (f ▸ g ▸ ε))) v k 2 s 0 p i refl (omega arith) (known-load b o 0 (λ q. omega arith) refl)),
 )
 
 abbrev pub operand : ℕ → ℕ → ℕ → ℕ → Operand
@@ -184,7 +184,7 @@ module _ {x y ks fs ds : List ℕ} {o : Operand} {l most k p w dep : ℕ} (go : 
             let few = g .few in
             let room = g .room in
             let put = pt .done (omega arith) (omega arith) (omega arith) (omega arith) in
-            let hd = subst (λ (i : ℕ). Holds (rows y (c .text)) i (bare f)) sp (s .held g) in
-            subst (λ (i : ℕ). Holds (rows y′ (c .text)) i (bare whole)) (sym st)
+            let hd = subst (λ (i : ℕ). Holds (table y (c .text)) i (bare f)) sp (s .held g) in
+            subst (λ (i : ℕ). Holds (table y′ (c .text)) i (bare whole)) (sym st)
             (both-on (c .text) (q .op) (q .left) f (q .start) w num (w + 1 - getD fs (k - 1) 0) (omega arith) (omega arith) (omega arith) oc (inf .plain) (pt .beside) put (q .held g) hd);
       }

@@ -72,10 +72,7 @@ pub record Filled (c : Source) (x : List ℕ) (t : Table) (n : ℕ) (rows : List
 
 -- cells for every part that is allowed
 pub record Wide (t : Table) : Type 0 where
-  pub kinds : part-limit ≤ length (t .kinds)
-  pub counts : part-limit ≤ length (t .counts)
-  pub sizes : part-limit ≤ length (t .sizes)
-  pub loads : part-limit ≤ length (t .loads)
+  pub cells : part-limit * 4 ≤ length (t .cells)
 
 -- no token passes a limit, and the text none
 pub record Sound (c : Source) : Type 0 where

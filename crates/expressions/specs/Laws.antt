@@ -20,7 +20,7 @@ use Rattle.paper_tokens.specs.Tokens.{“=”}
 use Rattle.paper_guideline.specs.Tree.{Where}
 use Rattle.paper_guideline.specs.Structure.{Name, Outermost}
 use Rattle.parts.specs.Texts.{textAt}
-use Rattle.parts.specs.Part.{Table, size, Holds}
+use Rattle.parts.specs.Part.{Table, load-at, size, Holds}
 use Rattle.parts.specs.Kept.{Kept, holds-kept}
 use Rattle.leaves.specs.Source.{Source}
 use Rattle.steps.specs.declared.Built.{Built}
@@ -95,33 +95,18 @@ held-kept : {t t′ : Table} {v w : ℕ} (u : ℕ) (x : Option Outermost) → t�
 held-kept u none e b l h = tt
 held-kept {t} {t′} {v} {w} u (some x) e b l h =
     let z = bare-size (x .tree) in
-    let k : Kept t t′ u v = record {
-      kinds = λ p f g. b .kinds p (inl (omega arith));
-      counts = λ p f g. b .counts p (inl (omega arith));
-      sizes = λ p f g. b .sizes p (inl (omega arith));
-      loads = λ p f g. b .loads p (inl (omega arith));
-      texts = λ p f g s. ap (λ (d : List ℕ). textAt d (getD (t .loads) p 0)) e;
-    } in
+    let k : Kept t t′ u v = record { cells = λ i f g. b .cells i (inl g); texts = λ p f g s. ap (λ (d : List ℕ). textAt d (load-at t p)) e } in
     holds-kept t t′ (bare (x .tree)) u k (omega arith) (omega arith) h
 
-side : {u v j : ℕ} → u ≤ v → (j < 0) ⊎ (v ≤ j) → u ≤ j
-side l (inl h) = absurd (not-suc-le-zero h)
-side l (inr h) = omega arith
-
-later : {v j : ℕ} → (j < 0) ⊎ (v ≤ j) → v ≤ j
-later (inl h) = absurd (not-suc-le-zero h)
-later (inr h) = h
+behind : {n j : ℕ} → (j < 0) ⊎ (n ≤ j) → n ≤ j
+behind (inl h) = absurd (not-suc-le-zero h)
+behind (inr h) = h
 
 beside-more : {t t′ t″ : Table} {u v : ℕ} → u ≤ v → Beside 0 u t t′ → Beside u v t′ t″ → Beside 0 v t t″
-beside-more l a b = record {
-  kinds = λ j h. b .kinds j (inr (later h)) ∙ a .kinds j (inr (side l h));
-  counts = λ j h. b .counts j (inr (later h)) ∙ a .counts j (inr (side l h));
-  sizes = λ j h. b .sizes j (inr (later h)) ∙ a .sizes j (inr (side l h));
-  loads = λ j h. b .loads j (inr (later h)) ∙ a .loads j (inr (side l h));
-}
+beside-more l a b = record { cells = λ j h. let k = behind h in b .cells j (inr k) ∙ a .cells j (inr (omega arith)) }
 
 pub beside-same : (u v : ℕ) (t : Table) → Beside u v t t
-beside-same u v t = record { kinds = λ j h. refl; counts = λ j h. refl; sizes = λ j h. refl; loads = λ j h. refl }
+beside-same u v t = record { cells = λ j h. refl }
 
 -- ---- one row
 
@@ -159,12 +144,9 @@ module _ {c : Source} {x : List ℕ} {t t′ : Table} {i u k p : ℕ} {b : Bool}
       let g = subst (λ (y : Option Outermost). ExpressionAt c (where-by (kind-of row)) (getD x (i * 8 + 4) 0) (getD x (i * 8 + 5) 0) y) e (h .expression) .0 in
       let d = subst (λ (y : ℕ). Reads (where-by (kind-of row)) c t t′ y u m) ep (subst (λ (y : Where). Reads y c t t′ p u m) (ap where-of eb ∙ ap where-by (ek ∙ h .kind)) reads) in
       let z = ap size-in e in
-      let wk = w .kinds in
-      let wn = w .counts in
-      let ws = w .sizes in
-      let wl = w .loads in
+      let wc = w .cells in
       let a = d .ok (g .fine .count) (g .first ∷ g .tokens) (g .rest) (o .tree) (g .stand) (g .tree) (g .ends) (g .fine .all) (λ j y r v. s .clean j y r (omega arith)) (s .short)
-      (record { limit = omega arith; kinds = omega arith; counts = omega arith; sizes = omega arith; loads = omega arith }) in
+      (record { limit = omega arith; cells = omega arith }) in
       (a .0, a .2, a .3)
 
   -- it cannot be refused

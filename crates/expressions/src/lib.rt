@@ -45,14 +45,11 @@ fn read_row(
     places: &[usize],
     lengths: &[usize],
     rows: &mut [u32],
-    codes: &mut [u8],
-    counts: &mut [u32],
-    sizes: &mut [u32],
-    loads: &mut [u32],
+    cells: &mut [u32],
     i: usize,
     u: usize,
 ) -> Read
-    ensures { λ r. ⌜ Turns (source (now (text .entry)) (now (kinds .entry)) (now (places .entry)) (now (lengths .entry))) (now (rows .entry)) (now (rows .exit)) (table (now (codes .entry)) (now (counts .entry)) (now (sizes .entry)) (now (loads .entry)) (now (text .entry))) (table (now (codes .exit)) (now (counts .exit)) (now (sizes .exit)) (now (loads .exit)) (now (text .entry))) i u r ⌝ }
+    ensures { λ r. ⌜ Turns (source (now (text .entry)) (now (kinds .entry)) (now (places .entry)) (now (lengths .entry))) (now (rows .entry)) (now (rows .exit)) (table (now (cells .entry)) (now (text .entry))) (table (now (cells .exit)) (now (text .entry))) i u r ⌝ }
 {
     if rows.len() / 8 <= i {
         return failed();
@@ -63,19 +60,7 @@ fn read_row(
     }
     // "=" is the kind of an assignment
     let assigned = number(rows, i * 8) == 81;
-    let e = reader::read_expression(
-        text,
-        kinds,
-        places,
-        lengths,
-        from,
-        assigned,
-        codes,
-        counts,
-        sizes,
-        loads,
-        u,
-    );
+    let e = reader::read_expression(text, kinds, places, lengths, from, assigned, cells, u);
     if !e.ok {
         return failed();
     }
@@ -90,29 +75,14 @@ pub fn fill(
     lengths: &[usize],
     n: usize,
     rows: &mut [u32],
-    codes: &mut [u8],
-    counts: &mut [u32],
-    sizes: &mut [u32],
-    loads: &mut [u32],
+    cells: &mut [u32],
 ) -> Read
-    ensures { λ r. ⌜ Fills (source (now (text .entry)) (now (kinds .entry)) (now (places .entry)) (now (lengths .entry))) (now (rows .entry)) (now (rows .exit)) (table (now (codes .entry)) (now (counts .entry)) (now (sizes .entry)) (now (loads .entry)) (now (text .entry))) (table (now (codes .exit)) (now (counts .exit)) (now (sizes .exit)) (now (loads .exit)) (now (text .entry))) n r ⌝ }
+    ensures { λ r. ⌜ Fills (source (now (text .entry)) (now (kinds .entry)) (now (places .entry)) (now (lengths .entry))) (now (rows .entry)) (now (rows .exit)) (table (now (cells .entry)) (now (text .entry))) (table (now (cells .exit)) (now (text .entry))) n r ⌝ }
 {
     let mut u = 0;
     let mut i = 0;
     while i < n {
-        let e = read_row(
-            text,
-            kinds,
-            places,
-            lengths,
-            rows,
-            codes,
-            counts,
-            sizes,
-            loads,
-            i,
-            u,
-        );
+        let e = read_row(text, kinds, places, lengths, rows, cells, i, u);
         if !e.ok {
             return failed();
         }

@@ -11,8 +11,9 @@ use Rattle.paper_expressions.specs.Limits.{list-limit}
 use Rattle.paper_guideline.specs.Limits.{text-limit, token-limit, part-limit, depth-limit}
 use Rattle.paper_tokens.specs.Lexical.{Token, atom}
 use Rattle.paper_guideline.specs.Structure.{Name, Outermost}
+use Rattle.parts.specs.Part.{table}
 use Rattle.leaves.specs.Source.{Source, Here, Stand, Clean}
-use Rattle.expression_steps.specs.Rows.{rows, Beside}
+use Rattle.expression_steps.specs.Rows.{Beside}
 use Rattle.expression_steps.specs.Levels.{kindOf}
 use Rattle.guideline_rows.specs.Rows.{named, Row, kind-of, word-of, name-of, expression-of, flag-of}
 use Rattle.guideline_rows.specs.Sizes.{size-in, first-of, end-of, start-of, HeldIn}
@@ -86,7 +87,7 @@ pub record Told (c : Source) (k l : List ℕ) (u : ℕ) (t : Passed) (x : Row) :
   pub start : t .start ≡ start-of (expression-of x)
   pub near : t .start ≤ text-limit
   pub sized : Sized (expression-of x) (t .large) (t .start)
-  pub held : Sound c → u + size-in (expression-of x) ≤ part-limit → (u + size-in (expression-of x)) * 4 ≤ length k → HeldIn (rows l (c .text)) u (expression-of x)
+  pub held : Sound c → u + size-in (expression-of x) ≤ part-limit → (u + size-in (expression-of x)) * 4 ≤ length k → HeldIn (table l (c .text)) u (expression-of x)
   pub flag : t .flag ≡ flag-of x
 
 abbrev pub Tells : Source → List ℕ → List ℕ → ℕ → Passed → List Row → Type 0

@@ -21,10 +21,10 @@ use Rattle.paper_tokens.specs.Lexical.{Token, atom}
 use Rattle.paper_guideline.specs.Tree.{Where, anywhere, assigned}
 use Rattle.paper_guideline.specs.Structure.{Outermost}
 use Rattle.paper_tokens.specs.Laws.TerminalLaws.{terminal-is}
-use Rattle.parts.specs.Part.{size, Holds}
+use Rattle.parts.specs.Part.{table, size, Holds}
 use Rattle.leaves.specs.Source.{Source, Stand}
 use Rattle.expression_steps.specs.declared.Built.{Built}
-use Rattle.expression_steps.specs.Rows.{rows, Beside, beside-none, beside-more}
+use Rattle.expression_steps.specs.Rows.{Beside, beside-none, beside-more}
 use Rattle.expression_steps.specs.Levels.{kindAt, stand-kind, stand-length}
 use Rattle.expression_steps.specs.StepLaws.{stand-here, stand-next}
 use Rattle.expression_steps.specs.Made as Steps
@@ -251,7 +251,7 @@ module _ {c : Source} {p u : ℕ} {k : List ℕ} where
 
 module _ {c : Source} {k l : List ℕ} {u : ℕ} {e : Built} where
   -- what is read
-  held-there : {r : List Token} {y : Expr} → Whole c k l u r y e → Sound c → u + size y ≤ part-limit → (u + size y) * 4 ≤ length k → Holds (rows l (c .text)) u (bare y)
+  held-there : {r : List Token} {y : Expr} → Whole c k l u r y e → Sound c → u + size y ≤ part-limit → (u + size y) * 4 ≤ length k → Holds (table l (c .text)) u (bare y)
   held-there {y = y} w s f g = let z = parts-size y in w .held (λ i t h n. s .clean i t h (omega arith)) (s .short) (omega arith) (omega arith)
 
   used-there : {r : List Token} {y : Expr} → Whole c k l u r y e → e .used ≡ u + size y

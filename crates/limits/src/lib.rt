@@ -1,6 +1,7 @@
 // Every limit of reading and of the engine, named once, on the type that it limits; and tied once, by the function beside it, to the definitions.
 // The limits of values stand on the types of values: integers and reals on numbers::Num, texts on values::Handle, lists on values::List.
 ghost use mathlib.Core.Path.{_≡_};
+ghost use Prim.Native.Nat.{_*_};
 ghost use Rattle.limits.specs.Limits.{row-cells, answer-limit, cycle-limit, time-limit, wait-side, change-rows};
 ghost use Rattle.paper_guideline.specs.Limits.{text-limit, token-limit, bracket-limit, task-limit, data-item-limit};
 ghost use Rattle.paper_guideline.specs.Limits.{part-limit, depth-limit, assignment-limit, source-limit, decimal-limit};
@@ -93,6 +94,15 @@ impl Expressions {
         ensures { λ r. ⌜ r ≡ part-limit ⌝ }
     {
         Expressions::PARTS
+    }
+
+    // the cells of their table, four a part
+    pub const CELLS: usize = 4_096;
+
+    pub fn cells() -> usize
+        ensures { λ r. ⌜ r ≡ part-limit * 4 ⌝ }
+    {
+        Expressions::CELLS
     }
 }
 

@@ -70,7 +70,7 @@ pub record Held (line : List ℕ) (t : Table) (end : ℕ) : Type 0 where
   pub ends : Ends t end (bare expression)
   pub deep : Within depth-limit (bare expression)
   pub modest : Modest expression
-  pub texts : AllSpelt (t .bytes) (t .kinds) (t .loads)
+  pub texts : AllSpelt t
 
 abbrev pub Parses : List ℕ → List ℕ → List ℕ → List ℕ → Verdict → Type 0
 Parses line kinds places lengths Fine = Parsed line kinds places lengths

@@ -10,7 +10,7 @@ use lib.ListN.{length, getD, replicate, length-append}
 use Rattle.paper_expressions.specs.Operators.{Op, arithmetic, divide, compare, and, or, includes, oneof, if, negate, isknown, not, count, sum, extreme, nth, is-in, no-such}
 use Rattle.paper_expressions.specs.Expressions.{Expr, Exprs, Atom, IntegerLit, FloatLit, StringLit, Paren, Listing, Apply, ε, _▸_}
 use Rattle.parts.specs.Texts.{textAt}
-use Rattle.parts.specs.Part.{Table, OpLoad, size, sizes, Holds, HoldsAll}
+use Rattle.parts.specs.Part.{Table, code-at, load-at, OpLoad, size, sizes, Holds, HoldsAll}
 use Rattle.parts.specs.Encode.{name, spelling, spellings}
 use Rattle.parts.specs.Kept.{HasText}
 use Rattle.leaves.specs.Cells.{length-cells}
@@ -42,15 +42,15 @@ short-name b (no-such n) x h = short b x h
 module _ (t : Table) where
   mutual
     pub short-texts : (e : Expr) (a : ℕ) → Holds t a e → length (spelling e) ≤ 63 * size e
-    short-texts (Atom n) a h = let l = short (t .bytes) (getD (t .loads) a 0) (h .loads) in omega arith
+    short-texts (Atom n) a h = let l = short (t .bytes) (load-at t a) (h .loads) in omega arith
     short-texts (IntegerLit n) a h = omega arith
     short-texts (FloatLit n) a h = omega arith
-    short-texts (StringLit s) a h = let l = short (t .bytes) (getD (t .loads) a 0) (h .loads) in omega arith
+    short-texts (StringLit s) a h = let l = short (t .bytes) (load-at t a) (h .loads) in omega arith
     short-texts (Paren e) a h = absurd h
     short-texts (Listing es) a h = let l = all-short es a (h .0) in omega arith
     short-texts (Apply o es) a h =
         let l = all-short es a (h .0) in
-        let m = short-name (t .bytes) o (getD (t .loads) (a + sizes es) 0) (h .1 .loads) in
+        let m = short-name (t .bytes) o (load-at t (a + sizes es)) (h .1 .loads) in
         let n = length-append (spellings es) (name o) in
         omega arith
 
@@ -68,12 +68,12 @@ no-cell (suc n) zero = refl
 no-cell (suc n) (suc p) = no-cell n p
 
 -- the texts of the parts before z lie within the bytes, and behind them there is no part
-pub all-inside : (b ks xs : List ℕ) (z : ℕ) → ((p : ℕ) → p < z → HasText (getD ks p 0) → Inside b (getD xs p 0)) → ((p : ℕ) → z ≤ p → getD ks p 0 ≡ 0) → AllSpelt b ks xs
-all-inside b ks xs z f g p = go (decLt p z)
+pub all-inside : (t : Table) (z : ℕ) → ((p : ℕ) → p < z → HasText (code-at t p) → Inside (t .bytes) (load-at t p)) → ((p : ℕ) → z ≤ p → code-at t p ≡ 0) → AllSpelt t
+all-inside t z f g p = go (decLt p z)
   where
-    none : {x : ℕ} → z ≤ p → ¬ (getD ks p 0 ≡ suc x)
+    none : {x : ℕ} → z ≤ p → ¬ (code-at t p ≡ suc x)
     none l e = let k = g p l in omega arith
 
-    go : Dec (p < z) → Spelt b (getD ks p 0) (getD xs p 0)
+    go : Dec (p < z) → Spelt (t .bytes) (code-at t p) (load-at t p)
     go (yes l) = record { atom = λ e. f p l (inl e); string = λ e. f p l (inr (inl e)) }
     go (no l) = record { atom = λ e. absurd (none (omega arith) e); string = λ e. absurd (none (omega arith) e) }

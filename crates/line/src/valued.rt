@@ -10,31 +10,18 @@ ghost use Rattle.line.specs.Steps.{Blank, Fitting, Worth, Comes};
 const TEXTS: usize = 65_536;
 
 // The value of an expression of the type with the letter, whose parts end before `end`. There are no data items and no tasks.
-fn worth(
-    codes: &[u8],
-    counts: &[u32],
-    sizes: &[u32],
-    loads: &[u32],
-    bytes: &[u8],
-    end: usize,
-    letter: u8,
-    out: &mut [u8],
-) -> usize
+fn worth(cells: &[u32], bytes: &[u8], end: usize, letter: u8, out: &mut [u8]) -> usize
     requires { ⌜ Blank (now out) ⌝ }
-    ensures { λ r. ⌜ Worth (table (now (codes .entry)) (now (counts .entry)) (now (sizes .entry)) (now (loads .entry)) (now (bytes .entry))) end letter (length (now (out .entry))) (now (out .exit)) r ⌝ }
+    ensures { λ r. ⌜ Worth (table (now (cells .entry)) (now (bytes .entry))) end letter (length (now (out .entry))) (now (out .exit)) r ⌝ }
 {
-    let none = &bytes[0..0];
-    let nobody = &counts[0..0];
+    let none = &cells[0..0];
     let v = evaluator::value_of(
-        codes,
-        counts,
-        sizes,
-        loads,
+        cells,
         bytes,
-        nobody,
         none,
-        nobody,
-        nobody,
+        none,
+        none,
+        none,
         none,
         0,
         end,
@@ -44,36 +31,17 @@ fn worth(
 }
 
 // Refusal 5, or the type and the value of the expression whose parts end before `end`.
-fn value(
-    codes: &[u8],
-    counts: &[u32],
-    sizes: &[u32],
-    loads: &[u32],
-    bytes: &[u8],
-    end: usize,
-    out: &mut [u8],
-) -> usize
+fn value(cells: &[u32], bytes: &[u8], end: usize, out: &mut [u8]) -> usize
     requires { ⌜ Blank (now out) ⌝ }
-    ensures { λ r. ⌜ Comes (table (now (codes .entry)) (now (counts .entry)) (now (sizes .entry)) (now (loads .entry)) (now (bytes .entry))) end (length (now (out .entry))) (now (out .exit)) r ⌝ }
+    ensures { λ r. ⌜ Comes (table (now (cells .entry)) (now (bytes .entry))) end (length (now (out .entry))) (now (out .exit)) r ⌝ }
 {
-    let none = &bytes[0..0];
-    let nobody = &counts[0..0];
-    let letter = typer::type_of(
-        codes,
-        counts,
-        sizes,
-        loads,
-        bytes,
-        nobody,
-        none,
-        0,
-        end,
-        Expression::DEPTH,
-    );
+    let names = &cells[0..0];
+    let types = &bytes[0..0];
+    let letter = typer::type_of(cells, bytes, names, types, 0, end, Expression::DEPTH);
     if letter == 0 {
         return written::refused(5, out, 0);
     }
-    worth(codes, counts, sizes, loads, bytes, end, letter, out)
+    worth(cells, bytes, end, letter, out)
 }
 
 // The parts of the expression, with their texts gathered, and what they come to.
@@ -88,25 +56,10 @@ pub fn evaluate(
     requires { ⌜ Blank (now out) ⌝ }
     ensures { λ r. ⌜ Answered (now (line .entry)) (length (now (out .entry))) (now (out .exit)) r ⌝ }
 {
-    let mut codes = [0u8; Expressions::PARTS];
-    let mut counts = [0u32; Expressions::PARTS];
-    let mut sizes = [0u32; Expressions::PARTS];
-    let mut loads = [0u32; Expressions::PARTS];
-    let built = reader::read_expression(
-        line,
-        kinds,
-        places,
-        lengths,
-        0,
-        false,
-        &mut codes,
-        &mut counts,
-        &mut sizes,
-        &mut loads,
-        0,
-    );
+    let mut cells = [0u32; Expressions::CELLS];
+    let built = reader::read_expression(line, kinds, places, lengths, 0, false, &mut cells, 0);
     let end = built.used;
     let mut bytes = [0u8; TEXTS];
-    let _ = pool::gather(line, &codes, &mut loads, 0, end, &mut bytes, 0);
-    value(&codes, &counts, &sizes, &loads, &bytes, end, out)
+    let _ = pool::gather(line, &mut cells, 0, end, &mut bytes, 0);
+    value(&cells, &bytes, end, out)
 }

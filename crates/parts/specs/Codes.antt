@@ -1,4 +1,4 @@
--- The number of each kind of part, for the column of kinds. 0 is no part. Definitions only.
+-- The number of each kind of part. 0 is no part. Definitions only.
 -- Numbers that are not taken are for what later editions read.
 use Prim.Native.Nat.{ℕ}
 use Rattle.paper_expressions.specs.Types.{Declared, a-text, an-integer, a-boolean, a-datetime, a-date, a-time, a-real, a-setof-text, a-setof-integer, a-setof-real}

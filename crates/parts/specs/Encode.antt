@@ -1,17 +1,17 @@
--- Law: every expression without parentheses whose texts and literals are within the limits has a table, and its cells fit the columns.
--- By its parts as a list, and its texts one behind the other.
+-- The parts of an expression as a list, its texts one behind the other, and the cells that they are.
+-- Law: every expression without parentheses whose texts and literals are within the limits has a table.
 use mathlib.Core.Path.{_≡_, refl, sym, ap, subst, _∙_}
-use mathlib.Core.List.{List, [], _∷_, _++_, map}
-use Prim.Native.Nat.{ℕ, suc, _+_, _≤_, _<_}
+use mathlib.Core.List.{List, [], _∷_, _++_}
+use Prim.Native.Nat.{ℕ, zero, suc, _+_, _*_, _≤_, _<_}
 use native.Mathlib.Omega.{arith}
-use lib.ListN.{getD, length, length-append, List·getD-map}
+use lib.ListN.{getD, length, length-append}
 use Rattle.paper_expressions.specs.Limits.{text-limit}
 use Rattle.paper_expressions.specs.Values.{InLimit, InRealLimit}
 use Rattle.paper_expressions.specs.Operators.{Op, arithmetic, divide, compare, and, or, includes, oneof, if, negate, isknown, not, count, sum, extreme, nth, is-in, no-such}
 use Rattle.paper_expressions.specs.Expressions.{Expr, Exprs, Atom, IntegerLit, FloatLit, StringLit, Paren, Listing, Apply, ε, _▸_}
 use Rattle.parts.specs.Codes.{code}
 use Rattle.parts.specs.Texts.{cells, handle, textAt, text-of, literal, moved, literal-moved}
-use Rattle.parts.specs.Part.{Table, table, size, sizes, number-of, OpLoad, Holds, HoldsAll}
+use Rattle.parts.specs.Part.{Table, table, code-at, count-at, size-at, load-at, size, sizes, number-of, OpLoad, Holds, HoldsAll}
 
 -- ---- definitions
 
@@ -23,6 +23,11 @@ pub record Part : Type 0 where
 
 abbrev pub part : ℕ → ℕ → ℕ → ℕ → Part
 part k n s x = record { kind = k; count = n; size = s; load = x }
+
+-- parts as cells, four each
+abbrev pub flat : List Part → List ℕ
+flat [] = []
+flat (r ∷ rs) = r .kind ∷ r .count ∷ r .size ∷ r .load ∷ flat rs
 
 -- the name of an operator that section 11 doesn't have; no other needs its own
 abbrev pub name : Op → List ℕ
@@ -120,7 +125,7 @@ module _ {A : Type 0} (P : ℕ → A → Type 0) where
   join [] ys a h k = subst (λ (b : ℕ). Stands b ys) (omega arith) k
   join (x ∷ xs) ys a h k = (h .0, join xs ys (suc a) (h .1) (subst (λ (b : ℕ). Stands b ys) (omega arith) k))
 
-  split : (xs ys : List A) (a : ℕ) → Stands a (xs ++ ys) → Stands a xs × Stands (a + length xs) ys
+  pub split : (xs ys : List A) (a : ℕ) → Stands a (xs ++ ys) → Stands a xs × Stands (a + length xs) ys
   split [] ys a h = (tt, subst (λ (b : ℕ). Stands b ys) (omega arith) h)
   split (x ∷ xs) ys a h = let g = split xs ys (suc a) (h .1) in ((h .0, g .0), subst (λ (b : ℕ). Stands b ys) (omega arith) (g .1))
 
@@ -144,7 +149,7 @@ spelt-text b s o l h = text-of b o (length s) (omega arith) ∙ spelt-cells b s 
 
 -- the parts stand in the table
 abbrev pub Is : Table → ℕ → Part → Type 0
-Is t p r = (getD (t .kinds) p 0 ≡ r .kind) × (getD (t .counts) p 0 ≡ r .count) × (getD (t .sizes) p 0 ≡ r .size) × (getD (t .loads) p 0 ≡ r .load)
+Is t p r = (code-at t p ≡ r .kind) × (count-at t p ≡ r .count) × (size-at t p ≡ r .size) × (load-at t p ≡ r .load)
 
 abbrev pub Laid : Table → ℕ → List Part → Type 0
 Laid t a rs = Stands (Is t) a rs
@@ -219,24 +224,71 @@ module _ (t : Table) where
           laid-all es (a + size e) m (f .1) (u .1) (subst (λ (k : ℕ). Laid t (a + k) (encodes m es)) (long o e (f .0)) (g .1)),
         )
 
+-- what a table holds has no parentheses, and so has as many parts as it says
+module _ (t : Table) where
+  mutual
+    pub held-long : (e : Expr) (a o : ℕ) → Holds t a e → length (encode o e) ≡ size e
+    held-long (Atom n) a o h = refl
+    held-long (IntegerLit n) a o h = refl
+    held-long (FloatLit n) a o h = refl
+    held-long (StringLit s) a o h = refl
+    held-long (Paren e) a o h = absurd h
+    held-long (Listing es) a o h = let l = all-long es a o (h .0) in simp length-append (omega arith)
+    held-long (Apply p es) a o h = let l = all-long es a o (h .0) in simp length-append (omega arith)
+
+    all-long : (es : Exprs) (a o : ℕ) → HoldsAll t a es → length (encodes o es) ≡ sizes es
+    all-long ε a o h = refl
+    all-long (e ▸ es) a o h = let x = held-long e a o (h .0) in let y = all-long es (a + size e) (o + length (spelling e)) (h .1) in simp length-append (omega arith)
+
+-- ---- parts as cells
+
+cell-at : (x : List ℕ) {i j v : ℕ} → i ≡ j → getD x j 0 ≡ v → getD x i 0 ≡ v
+cell-at x e h = ap (λ (k : ℕ). getD x k 0) e ∙ h
+
+-- they stand in the table exactly if their cells do
+pub laid-spelt : (x b : List ℕ) (rs : List Part) (a : ℕ) → Laid (table x b) a rs → Spelt x (a * 4) (flat rs)
+laid-spelt x b [] a h = tt
+laid-spelt x b (r ∷ rs) a h = (
+  h .0 .0,
+  (
+    cell-at x (omega arith) (h .0 .1),
+    (
+      cell-at x (omega arith) (h .0 .2),
+      (
+        cell-at x (omega arith) (h .0 .3),
+        subst (λ (i : ℕ). Spelt x i (flat rs)) {x = suc a * 4} {y = suc (suc (suc (suc (a * 4))))} (omega arith) (laid-spelt x b rs (suc a) (h .1)),
+      ),
+    ),
+  ),
+)
+
+pub spelt-laid : (x b : List ℕ) (rs : List Part) (a : ℕ) → Spelt x (a * 4) (flat rs) → Laid (table x b) a rs
+spelt-laid x b [] a h = tt
+spelt-laid x b (r ∷ rs) a h = (
+  (
+    h .0,
+    cell-at x {j = suc (a * 4)} (omega arith) (h .1 .0),
+    cell-at x {j = suc (suc (a * 4))} (omega arith) (h .1 .1 .0),
+    cell-at x {j = suc (suc (suc (a * 4)))} (omega arith) (h .1 .1 .1 .0),
+  ),
+  spelt-laid x b rs (suc a) (subst (λ (i : ℕ). Spelt x i (flat rs)) {x = suc (suc (suc (suc (a * 4))))} {y = suc a * 4} (omega arith) (h .1 .1 .1 .1)),
+)
+
+pub flat-length : (rs : List Part) → length (flat rs) ≡ length rs * 4
+flat-length [] = refl
+flat-length (r ∷ rs) = omega (arith, flat-length rs)
+
+pub flat-append : (rs ss : List Part) → flat (rs ++ ss) ≡ flat rs ++ flat ss
+flat-append [] ss = refl
+flat-append (r ∷ rs) ss = ap (λ (l : List ℕ). r .kind ∷ r .count ∷ r .size ∷ r .load ∷ l) (flat-append rs ss)
+
 -- ---- every expression has its table
 
-abbrev pub columns : List Part → List ℕ → Table
-columns rs b = table (map (λ r. r .kind) rs) (map (λ r. r .count) rs) (map (λ r. r .size) rs) (map (λ r. r .load) rs) b
-
-abbrev nothing : Part
-nothing = part 0 0 0 0
-
-pub has-table : (e : Expr) → Fits e → Holds (columns (encode 0 e) (spelling e)) 0 e
+pub has-table : (e : Expr) → Fits e → Holds (table (flat (encode 0 e)) (spelling e)) 0 e
 has-table e f =
-    let rs = encode 0 e in
+    let x = flat (encode 0 e) in
     let b = spelling e in
-    laid-held (columns rs b) e 0 0 f
-    (by-cells (λ i c. getD b i 0 ≡ c) 0 b 0 λ i l. subst (λ (k : ℕ). getD b k 0 ≡ getD b i 0) {x = i} {y = 0 + i} (omega arith) refl)
-    (by-cells (Is (columns rs b)) nothing rs 0 λ i l.
-    subst (λ (k : ℕ). Is (columns rs b) k (getD rs i nothing)) {x = i} {y = 0 + i} (omega arith) (
-      List·getD-map (λ (r : Part). r .kind) rs i nothing,
-      List·getD-map (λ (r : Part). r .count) rs i nothing,
-      List·getD-map (λ (r : Part). r .size) rs i nothing,
-      List·getD-map (λ (r : Part). r .load) rs i nothing,
-    ))
+    laid-held (table x b) e 0 0 f (itself b) (spelt-laid x b (encode 0 e) 0 (itself x))
+  where
+    itself : (b : List ℕ) → Spelt b 0 b
+    itself b = by-cells (λ i c. getD b i 0 ≡ c) 0 b 0 λ i l. subst (λ (k : ℕ). getD b k 0 ≡ getD b i 0) {x = i} {y = 0 + i} (omega arith) refl

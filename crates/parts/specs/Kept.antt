@@ -2,14 +2,14 @@
 use mathlib.Core.Path.{_≡_, refl, sym, subst, _∙_}
 use mathlib.Core.Logic.{_⊎_, inl, inr}
 use mathlib.Core.List.{List}
-use Prim.Native.Nat.{ℕ, _+_, _≤_, _<_}
+use Prim.Native.Nat.{ℕ, _+_, _*_, _≤_, _<_}
 use native.Mathlib.Omega.{arith}
 use lib.ListN.{getD}
 use Rattle.paper_expressions.specs.Operators.{Op, arithmetic, divide, compare, and, or, includes, oneof, if, negate, isknown, not, count, sum, extreme, nth, is-in, no-such}
 use Rattle.paper_expressions.specs.Expressions.{Expr, Exprs, Atom, IntegerLit, FloatLit, StringLit, Paren, Listing, Apply, ε, _▸_}
 use Rattle.parts.specs.Codes.{kind}
 use Rattle.parts.specs.Texts.{textAt}
-use Rattle.parts.specs.Part.{Table, size, sizes, OpLoad, Load, Root, Holds, HoldsAll}
+use Rattle.parts.specs.Part.{Table, code-at, load-at, size, sizes, OpLoad, Load, Root, Holds, HoldsAll}
 
 -- an atom, a string, an operator that section 11 doesn't have
 abbrev pub HasText : ℕ → Type 0
@@ -17,11 +17,8 @@ HasText k = (k ≡ 1) ⊎ ((k ≡ 4) ⊎ (k ≡ 250))
 
 -- u has the parts of t from a up to z, and not z itself
 pub record Kept (t u : Table) (a z : ℕ) : Type 0 where
-  pub kinds : (p : ℕ) → a ≤ p → p < z → getD (u .kinds) p 0 ≡ getD (t .kinds) p 0
-  pub counts : (p : ℕ) → a ≤ p → p < z → getD (u .counts) p 0 ≡ getD (t .counts) p 0
-  pub sizes : (p : ℕ) → a ≤ p → p < z → getD (u .sizes) p 0 ≡ getD (t .sizes) p 0
-  pub loads : (p : ℕ) → a ≤ p → p < z → getD (u .loads) p 0 ≡ getD (t .loads) p 0
-  pub texts : (p : ℕ) → a ≤ p → p < z → HasText (getD (t .kinds) p 0) → textAt (u .bytes) (getD (t .loads) p 0) ≡ textAt (t .bytes) (getD (t .loads) p 0)
+  pub cells : (i : ℕ) → a * 4 ≤ i → i < z * 4 → getD (u .cells) i 0 ≡ getD (t .cells) i 0
+  pub texts : (p : ℕ) → a ≤ p → p < z → HasText (code-at t p) → textAt (u .bytes) (load-at t p) ≡ textAt (t .bytes) (load-at t p)
 
 op-kept : (b c : List ℕ) (o : Op) (x : ℕ) → (HasText (kind (Apply o ε)) → textAt c x ≡ textAt b x) → OpLoad b o x → OpLoad c o x
 op-kept b c (arithmetic k) x f h = h
@@ -54,10 +51,10 @@ load-kept b c (Apply o es) x f h = op-kept b c o x f h
 module _ (t u : Table) where
   root-kept : {a z : ℕ} (p : ℕ) (e : Expr) → Kept t u a z → a ≤ p → p < z → Root t p e → Root u p e
   root-kept p e k l m h = record {
-    kinds = k .kinds p l m ∙ h .kinds;
-    counts = k .counts p l m ∙ h .counts;
-    sizes = k .sizes p l m ∙ h .sizes;
-    loads = subst (Load (u .bytes) e) (sym (k .loads p l m)) (load-kept (t .bytes) (u .bytes) e (getD (t .loads) p 0) (λ x. k .texts p l m (subst HasText (sym (h .kinds)) x)) (h .loads));
+    kinds = k .cells (p * 4) (omega arith) (omega arith) ∙ h .kinds;
+    counts = k .cells (p * 4 + 1) (omega arith) (omega arith) ∙ h .counts;
+    sizes = k .cells (p * 4 + 2) (omega arith) (omega arith) ∙ h .sizes;
+    loads = subst (Load (u .bytes) e) (sym (k .cells (p * 4 + 3) (omega arith) (omega arith))) (load-kept (t .bytes) (u .bytes) e (load-at t p) (λ x. k .texts p l m (subst HasText (sym (h .kinds)) x)) (h .loads));
   }
 
   mutual

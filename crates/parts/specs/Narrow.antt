@@ -1,4 +1,4 @@
--- Law: the cells of an expression within the limits fit their columns: a byte for a kind, 32 bits for the others.
+-- Law: the cells of an expression within the limits fit 32 bits.
 -- By induction on the expression.
 use mathlib.Core.List.{List, [], _∷_, _++_}
 use Prim.Native.Nat.{ℕ, suc, _+_, _^_, _≤_, _<_}
@@ -17,7 +17,7 @@ use Rattle.parts.specs.Operands.{size-pos}
 use Rattle.parts.specs.Encode.{Part, part, name, name-load, spelling, spellings, encode, encodes, Fits, AllFit, Stands, join}
 
 pub record Narrow (r : Part) : Type 0 where
-  pub kind : r .kind < 2 ^ 8
+  pub kind : r .kind < 2 ^ 32
   pub count : r .count < 2 ^ 32
   pub size : r .size < 2 ^ 32
   pub load : r .load < 2 ^ 32

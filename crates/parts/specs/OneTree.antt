@@ -7,7 +7,6 @@ use native.Mathlib.Nat.{not-suc-le-zero}
 use native.Mathlib.Omega.{arith}
 use lib.Dec.{eqb}
 use lib.IntN.{ℤ}
-use lib.ListN.{getD}
 use borrow.Author.Count.{below-more}
 use Rattle.paper_expressions.specs.Values.{dormant, in-progress, discarded, completed}
 use Rattle.paper_expressions.specs.Operators.{plus, minus, times, is>, is<, is>=, is<=, is=, is!=, max, min}
@@ -15,7 +14,7 @@ use Rattle.paper_expressions.specs.Operators.{Op, arithmetic, divide, compare, 
 use Rattle.paper_expressions.specs.Expressions.{Expr, Exprs, Atom, IntegerLit, FloatLit, StringLit, Paren, Listing, Apply, ε, _▸_}
 use Rattle.parts.specs.Codes.{code, kind}
 use Rattle.parts.specs.Texts.{textAt, literal}
-use Rattle.parts.specs.Part.{Table, size, sizes, number-of, operands, OpLoad, Load, Root, Holds, HoldsAll, Ends}
+use Rattle.parts.specs.Part.{Table, load-at, size, sizes, number-of, operands, OpLoad, Load, Root, Holds, HoldsAll, Ends}
 use Rattle.parts.specs.Operands.{pieces, nth-of, before, before-none, before-suc, before-all, before-le, held-nth}
 
 -- ---- an expression from its last part: kind, text, literal and operands
@@ -107,7 +106,7 @@ of-kind b e k x h l = ap (λ (m : ℕ). build m (textAt b x) (literal x) (operan
 same-root : (t : Table) (p : ℕ) (e f : Expr) → Root t p e → Root t p f → operands e ≡ operands f → e ≡ f
 same-root t p e f x y h =
     let b = t .bytes in
-    let n = getD (t .loads) p 0 in
+    let n = load-at t p in
     let k : kind e ≡ kind f = sym (x .kinds) ∙ y .kinds in
     sym (built b e n (x .loads)) ∙ ap (build (kind e) (textAt b n) (literal n)) h ∙ of-kind b f (kind e) n k (y .loads)
 

@@ -3,9 +3,8 @@ use mathlib.Core.Path.{_≡_, refl, subst}
 use Prim.Native.Nat.{ℕ, zero, suc, _+_, _-_, _≤_, _<_}
 use native.Mathlib.Nat.{not-suc-le-zero}
 use native.Mathlib.Omega.{arith}
-use lib.ListN.{getD}
 use Rattle.paper_expressions.specs.Expressions.{Expr, Exprs, Atom, IntegerLit, FloatLit, StringLit, Paren, Listing, Apply, ε, _▸_}
-use Rattle.parts.specs.Part.{Table, size, sizes, number-of, operands, Root, Holds, HoldsAll, Ends, Within, Withins}
+use Rattle.parts.specs.Part.{Table, size-at, size, sizes, number-of, operands, Root, Holds, HoldsAll, Ends, Within, Withins}
 
 -- ---- the last part
 
@@ -139,7 +138,7 @@ left-ends t es a k q h l =
     record { start = a + before es k; spans = omega (arith, before-suc es k (omega arith)); held = held-nth t es a k h (omega arith) }
 
 -- the size at q - 1 leads to the operand before
-pub left-step : (t : Table) (es : Exprs) (a k q : ℕ) → HoldsAll t a es → Left t es a (suc k) q → Left t es a k (q - getD (t .sizes) (q - 1) 0)
+pub left-step : (t : Table) (es : Exprs) (a k q : ℕ) → HoldsAll t a es → Left t es a (suc k) q → Left t es a k (q - size-at t (q - 1))
 left-step t es a k q h l =
     let f = l .few in
     let g = l .at in

@@ -1,23 +1,34 @@
--- The part table, and when it holds an expression: in postfix order, operands before their operator. Definitions only.
+-- The part table, four cells a part, and when it holds an expression: in postfix order, operands before their operator. Definitions only.
 use mathlib.Core.Path.{_≡_}
 use mathlib.Core.List.{List}
-use Prim.Native.Nat.{ℕ, suc, _+_, _-_, _<_}
+use Prim.Native.Nat.{ℕ, suc, _+_, _*_, _-_, _<_}
 use lib.ListN.{getD}
 use Rattle.paper_expressions.specs.Operators.{Op, arithmetic, divide, compare, and, or, includes, oneof, if, negate, isknown, not, count, sum, extreme, nth, is-in, no-such}
 use Rattle.paper_expressions.specs.Expressions.{Expr, Exprs, Atom, IntegerLit, FloatLit, StringLit, Paren, Listing, Apply, ε, _▸_}
 use Rattle.parts.specs.Codes.{kind}
 use Rattle.parts.specs.Texts.{textAt, literal}
 
--- the columns, and the bytes of all texts
+-- the cells of all parts, and the bytes of all texts
 pub record Table : Type 0 where
-  pub kinds : List ℕ
-  pub counts : List ℕ
-  pub sizes : List ℕ
-  pub loads : List ℕ
+  pub cells : List ℕ
   pub bytes : List ℕ
 
-abbrev pub table : List ℕ → List ℕ → List ℕ → List ℕ → List ℕ → Table
-table k n s x b = record { kinds = k; counts = n; sizes = s; loads = x; bytes = b }
+abbrev pub table : List ℕ → List ℕ → Table
+table x b = record { cells = x; bytes = b }
+
+-- ---- the four cells of the part p: what it is, its number of operands, the parts of its whole expression, and what it loads
+
+abbrev pub code-at : Table → ℕ → ℕ
+code-at t p = getD (t .cells) (p * 4) 0
+
+abbrev pub count-at : Table → ℕ → ℕ
+count-at t p = getD (t .cells) (p * 4 + 1) 0
+
+abbrev pub size-at : Table → ℕ → ℕ
+size-at t p = getD (t .cells) (p * 4 + 2) 0
+
+abbrev pub load-at : Table → ℕ → ℕ
+load-at t p = getD (t .cells) (p * 4 + 3) 0
 
 -- ---- the parts of an expression; a parenthesis is none
 
@@ -82,10 +93,10 @@ Load b (Apply o es) x = OpLoad b o x
 
 -- the part p of the table is the last of e
 pub record Root (t : Table) (p : ℕ) (e : Expr) : Type 0 where
-  pub kinds : getD (t .kinds) p 0 ≡ kind e
-  pub counts : getD (t .counts) p 0 ≡ number-of (operands e)
-  pub sizes : getD (t .sizes) p 0 ≡ suc (sizes (operands e))
-  pub loads : Load (t .bytes) e (getD (t .loads) p 0)
+  pub kinds : code-at t p ≡ kind e
+  pub counts : count-at t p ≡ number-of (operands e)
+  pub sizes : size-at t p ≡ suc (sizes (operands e))
+  pub loads : Load (t .bytes) e (load-at t p)
 
 -- ---- the parts of the table from a on hold the expression
 

@@ -3,7 +3,7 @@
 use mathlib.Core.Path.{_≡_, refl, ap, subst, _∙_}
 use mathlib.Core.Logic.{_⊎_, inl, inr}
 use mathlib.Core.List.{List, [], _∷_, _++_}
-use Prim.Native.Nat.{ℕ, zero, suc, _+_, _≤_, _<_}
+use Prim.Native.Nat.{ℕ, zero, suc, _+_, _*_, _≤_, _<_}
 use native.Mathlib.Nat.{not-suc-le-zero}
 use native.Mathlib.Omega.{arith}
 use lib.ListN.{getD, length, set, length-append, length-set}
@@ -45,6 +45,42 @@ apart a j (inr h) e = omega arith
 
 pub written-one : (l : List ℕ) (a v : ℕ) → a < length l → Written l (set l a v) a (v ∷ [])
 written-one l a v h = record { long = length-set l a v; inside = (getD-set-same l a v 0 h, tt); outside = λ j g. getD-set-other l a j v 0 (apart a j g) }
+
+-- ---- a row of four cells, of which the last is written
+
+cell-at : (l : List ℕ) {i j v : ℕ} → i ≡ j → getD l j 0 ≡ v → getD l i 0 ≡ v
+cell-at l e h = ap (λ (k : ℕ). getD l k 0) e ∙ h
+
+pub row-same : (l : List ℕ) (i : ℕ) → Written l l (i * 4) (getD l (i * 4) 0 ∷ getD l (i * 4 + 1) 0 ∷ getD l (i * 4 + 2) 0 ∷ getD l (i * 4 + 3) 0 ∷ [])
+row-same l i = record {
+  long = refl;
+  inside = (refl, (cell-at l {j = i * 4 + 1} (omega arith) refl, (cell-at l {j = i * 4 + 2} (omega arith) refl, (cell-at l {j = i * 4 + 3} (omega arith) refl, tt))));
+  outside = λ j h. refl;
+}
+
+pub row-last : (l : List ℕ) (i v : ℕ) → i * 4 + 3 < length l → Written l (set l (i * 4 + 3) v) (i * 4) (getD l (i * 4) 0 ∷ getD l (i * 4 + 1) 0 ∷ getD l (i * 4 + 2) 0 ∷ v ∷ [])
+row-last l i v h =
+    let m = set l (i * 4 + 3) v in
+    record {
+      long = length-set l (i * 4 + 3) v;
+      inside = (
+        getD-set-other l (i * 4 + 3) (i * 4) v 0 (λ e. omega arith),
+        (
+          cell-at m {j = i * 4 + 1} (omega arith) (getD-set-other l (i * 4 + 3) (i * 4 + 1) v 0 (λ e. omega arith)),
+          (
+            cell-at m {j = i * 4 + 2} (omega arith) (getD-set-other l (i * 4 + 3) (i * 4 + 2) v 0 (λ e. omega arith)),
+            (cell-at m {j = i * 4 + 3} (omega arith) (getD-set-same l (i * 4 + 3) v 0 h), tt),
+          ),
+        ),
+      );
+      outside = λ j g. getD-set-other l (i * 4 + 3) j v 0 (beside j g);
+    }
+  where
+    beside : (j : ℕ) → (j < i * 4) ⊎ (i * 4 + 4 ≤ j) → j ≡ i * 4 + 3 → ⊥
+    beside j (inl g) e = omega arith
+    beside j (inr g) e = omega arith
+
+-- ---- one writing behind the other
 
 module _ {l m k : List ℕ} {a z : ℕ} {s w : List ℕ} (x : Written l m a s) (e : z ≡ a + length s) (y : Written m k z w) where
   beside : (j : ℕ) → (j < a) ⊎ (a + length (s ++ w) ≤ j) → getD k j 0 ≡ getD l j 0

@@ -1,11 +1,11 @@
 // The names and texts of an expression, gathered in the text bytes: a part table that the reader has filled leads into the
 // guideline's own text, and afterwards holds the same expression over the text bytes.
+use parts::Code;
 use parts::byte;
-use parts::number;
 ghost use mathlib.Core.Path.{_≡_};
-ghost use lib.ListN.{length, getD};
+ghost use lib.ListN.{length};
 ghost use Prim.Native.Nat.{_+_, _≤_};
-ghost use Rattle.parts.specs.Texts.{cells};
+ghost use Rattle.parts.specs.Texts.{cells as cellsOf};
 ghost use Rattle.pool.specs.Written.{Written};
 ghost use Rattle.pool.specs.Pooled.{Gathers, nowhere as nowhereOf};
 ghost use Rattle.pool.specs.Columns.{Rooms, Moves, texted};
@@ -13,14 +13,14 @@ ghost use Rattle.pool.specs.Columns.{Rooms, Moves, texted};
 // No handle leads to this place or behind it.
 pub const NOWHERE: usize = 67_108_864;
 
-// Whether a part of kind `k` loads a text.
-fn has_text(k: u8) -> bool
+// Whether a part with the code `k` loads a text.
+fn has_text(k: usize) -> bool
     ensures { λ r. ⌜ r ≡ texted k ⌝ }
 {
     match k {
-        1 => true,
-        4 => true,
-        250 => true,
+        Code::ATOM => true,
+        Code::STRING => true,
+        Code::NO_SUCH => true,
         _ => false,
     }
 }
@@ -44,7 +44,7 @@ pub fn room(long: usize, o: usize, n: usize) -> bool
 // Copies `n` bytes of the text to the bytes from `o` on.
 pub fn copy(text: &[u8], place: usize, n: usize, bytes: &mut [u8], o: usize)
     requires { ⌜ (o + n ≤ length (now bytes)) × (place + n ≤ nowhereOf + 64) ⌝ }
-    ensures { λ r. ⌜ Written (now (bytes .entry)) (now (bytes .exit)) o (cells (now (text .entry)) place n) ⌝ }
+    ensures { λ r. ⌜ Written (now (bytes .entry)) (now (bytes .exit)) o (cellsOf (now (text .entry)) place n) ⌝ }
 {
     let mut j = 0;
     while j < n {
@@ -54,28 +54,21 @@ pub fn copy(text: &[u8], place: usize, n: usize, bytes: &mut [u8], o: usize)
 }
 
 // Moves the text of the part `i`, if it has one, to the bytes from `o` on. Answers the place behind it, or NOWHERE if there is no room.
-fn move_text(
-    text: &[u8],
-    codes: &[u8],
-    loads: &mut [u32],
-    i: usize,
-    bytes: &mut [u8],
-    o: usize,
-) -> usize
-    ensures { λ r. ⌜ Moves (now (text .entry)) (now (loads .entry)) (now (loads .exit)) (now (bytes .entry)) (now (bytes .exit)) i (getD (now (codes .entry)) i 0) o r ⌝ }
+fn move_text(text: &[u8], cells: &mut [u32], i: usize, bytes: &mut [u8], o: usize) -> usize
+    ensures { λ r. ⌜ Moves (now (text .entry)) (now (cells .entry)) (now (cells .exit)) (now (bytes .entry)) (now (bytes .exit)) i o r ⌝ }
 {
-    if loads.len() <= i {
+    if cells.len() / 4 <= i {
         return o;
     }
-    if !has_text(byte(codes, i)) {
+    if !has_text(parts::code(cells, i)) {
         return o;
     }
-    let x = number(loads, i);
+    let x = parts::load(cells, i) as usize;
     let n = x % 64;
     if !room(bytes.len(), o, n) {
         return NOWHERE;
     }
-    loads[i] = (o * 64 + n) as u32;
+    cells[i * 4 + 3] = (o * 64 + n) as u32;
     copy(text, x / 64, n, bytes, o);
     o + n
 }
@@ -84,19 +77,18 @@ fn move_text(
 // that no handle leads to, NOWHERE, if there is no room.
 pub fn gather(
     text: &[u8],
-    codes: &[u8],
-    loads: &mut [u32],
+    cells: &mut [u32],
     from: usize,
     to: usize,
     bytes: &mut [u8],
     o: usize,
 ) -> usize
-    ensures { λ r. ⌜ Gathers (now (text .entry)) (now (codes .entry)) (now (loads .entry)) (now (loads .exit)) (now (bytes .entry)) (now (bytes .exit)) from to o r ⌝ }
+    ensures { λ r. ⌜ Gathers (now (text .entry)) (now (cells .entry)) (now (cells .exit)) (now (bytes .entry)) (now (bytes .exit)) from to o r ⌝ }
 {
     let mut p = o;
     let mut i = from;
     while i < to {
-        p = move_text(text, codes, loads, i, bytes, p);
+        p = move_text(text, cells, i, bytes, p);
         i += 1;
     }
     p

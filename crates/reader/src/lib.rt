@@ -231,21 +231,18 @@ pub fn read_expression(
     lengths: &[usize],
     from: usize,
     assigned: bool,
-    codes: &mut [u8],
-    counts: &mut [u32],
-    sizes: &mut [u32],
-    loads: &mut [u32],
+    cells: &mut [u32],
     u: usize,
 ) -> Built
-    ensures { λ r. ⌜ Reads (where-of assigned) (source (now (text .entry)) (now (kinds .entry)) (now (places .entry)) (now (lengths .entry))) (table (now (codes .entry)) (now (counts .entry)) (now (sizes .entry)) (now (loads .entry)) (now (text .entry))) (table (now (codes .exit)) (now (counts .exit)) (now (sizes .exit)) (now (loads .exit)) (now (text .entry))) from u r ⌝ }
+    ensures { λ r. ⌜ Reads (where-of assigned) (source (now (text .entry)) (now (kinds .entry)) (now (places .entry)) (now (lengths .entry))) (table (now (cells .entry)) (now (text .entry))) (table (now (cells .exit)) (now (text .entry))) from u r ⌝ }
 {
-    let mut cells = [0u32; 4096];
+    let mut rows = [0u32; 4096];
     let e = expression(
         text,
         kinds,
         places,
         lengths,
-        &mut cells,
+        &mut rows,
         from,
         0,
         24,
@@ -255,22 +252,10 @@ pub fn read_expression(
         return refused();
     }
     let n = e.used;
-    if !store::room(codes.len(), u, n) {
+    if !store::room(cells.len(), u, n) {
         return refused();
     }
-    if !store::room(counts.len(), u, n) {
-        return refused();
-    }
-    if !store::room(sizes.len(), u, n) {
-        return refused();
-    }
-    if !store::room(loads.len(), u, n) {
-        return refused();
-    }
-    store::copy_kinds(&cells, codes, u, n);
-    store::copy(&cells, counts, 1, u, n);
-    store::copy(&cells, sizes, 2, u, n);
-    store::copy(&cells, loads, 3, u, n);
+    store::copy(&rows, cells, u, n);
     Built {
         ok: true,
         next: e.next,

@@ -74,33 +74,30 @@ outline-kept {n} {rows} k h = record { count = h .count; each = λ i row a. cell
     below View.at-first = omega arith
     below (View.at-later a) = let h = below a in omega arith
 
-module _ {text kinds places lengths o x y y′ z ks ns ss xs ks′ ns′ ss′ xs′ xs″ b b′ : List ℕ} {n q : ℕ} {r : Read}
+module _ {text kinds places lengths o x y y′ z p p′ p″ b b′ : List ℕ} {n q : ℕ} {r : Read}
     (copy : Copies o x y (n * 8))
-    (read : Expressions.Fills (source text kinds places lengths) y y′ (table ks ns ss xs text) (table ks′ ns′ ss′ xs′ text) n r)
-    (move : Gathered.Fills text places lengths y′ z ks′ xs′ xs″ b b′ n q)
-    (ly : length y′ ≡ length y) (lx : length xs′ ≡ length xs) where
-  pub filled : (ts : List Token) (g : List TopLevel) → Ready text kinds places lengths n o x (table ks ns ss xs b) ts g → Encoded (flatten g) z (table ks′ ns′ ss′ xs″ b′)
+    (read : Expressions.Fills (source text kinds places lengths) y y′ (table p text) (table p′ text) n r)
+    (move : Gathered.Fills text places lengths y′ z p′ p″ b b′ n q)
+    (ly : length y′ ≡ length y) (lp : length p′ ≡ length p) where
+  pub filled : (ts : List Token) (g : List TopLevel) → Ready text kinds places lengths n o x (table p b) ts g → Encoded (flatten g) z (table p″ b′)
   filled ts g h =
       let e = copy .long in
       let room = h .there in
-      let s : Start (source text kinds places lengths) y (table ks ns ss xs text) b n (flatten g) = record {
+      let s : Start (source text kinds places lengths) y (table p text) b n (flatten g) = record {
         ready = record {
           outline = outline-kept (copy .inside (h .here) (h .there)) (h .outline);
           room = omega arith;
           sound = h .sound;
           few = h .few;
-          wide = let w = h .wide in record { kinds = w .kinds; counts = w .counts; sizes = w .sizes; loads = w .loads };
+          wide = record { cells = h .wide .cells };
         };
         proper = flat-proper g;
         room = room-enough (h .its) (structure-flat (h .structure)) (h .sound .short) (h .bytes);
         cells = λ j l. copy .beyond j l ∙ blank-all x x (h .blank .rows) j (omega arith);
-        kinds = blank-all ks ks (h .blank .kinds);
-        counts = blank-all ns ns (h .blank .counts);
-        sizes = blank-all ss ss (h .blank .sizes);
-        loads = blank-all xs xs (h .blank .loads);
+        parts = blank-all p p (h .blank .parts);
         bytes = blank-all b b (h .blank .bytes);
       } in
-      whole s read move ly lx .encoded
+      whole s read move ly lp .encoded
 
 -- ---- what the stages give
 
@@ -123,36 +120,23 @@ long-enough : (n m : ℕ) → ¬ (ltb n m ≡ true) → m ≤ n
 long-enough n m h = at-most m n (λ k. h (lt-ltb n m k))
 
 -- every table has its least length
-record Roomy (r c n s l b : ℕ) : Type 0 where
+record Roomy (r c b : ℕ) : Type 0 where
   pub rows : row-cells ≤ r
-  pub codes : part-limit ≤ c
-  pub counts : part-limit ≤ n
-  pub sizes : part-limit ≤ s
-  pub loads : part-limit ≤ l
+  pub cells : part-limit * 4 ≤ c
   pub bytes : text-limit ≤ b
 
-roomy : (r c n s l b : ℕ) → ¬ (is-short r c n s l b ≡ true) → Roomy r c n s l b
-roomy r c n s l b h =
-    let a = neither (ltb r row-cells) (ltb c part-limit || (ltb n part-limit || (ltb s part-limit || (ltb l part-limit || ltb b text-limit)))) h in
-    let d = neither (ltb c part-limit) (ltb n part-limit || (ltb s part-limit || (ltb l part-limit || ltb b text-limit))) (a .1) in
-    let e = neither (ltb n part-limit) (ltb s part-limit || (ltb l part-limit || ltb b text-limit)) (d .1) in
-    let f = neither (ltb s part-limit) (ltb l part-limit || ltb b text-limit) (e .1) in
-    let g = neither (ltb l part-limit) (ltb b text-limit) (f .1) in
-    record {
-      rows = long-enough r row-cells (a .0);
-      codes = long-enough c part-limit (d .0);
-      counts = long-enough n part-limit (e .0);
-      sizes = long-enough s part-limit (f .0);
-      loads = long-enough l part-limit (g .0);
-      bytes = long-enough b text-limit (g .1);
-    }
+roomy : (r c b : ℕ) → ¬ (is-short r c b ≡ true) → Roomy r c b
+roomy r c b h =
+    let a = neither (ltb r row-cells) (ltb c (part-limit * 4) || ltb b text-limit) h in
+    let d = neither (ltb c (part-limit * 4)) (ltb b text-limit) (a .1) in
+    record { rows = long-enough r row-cells (a .0); cells = long-enough c (part-limit * 4) (d .0); bytes = long-enough b text-limit (d .1) }
 
 module _ {text kinds places lengths o o′ x : List ℕ} {t : Table} {n : ℕ} {short : Bool} where
   -- what is judged fine is ready to be written
-  pub ready : short ≡ is-short (length x) (length (t .kinds)) (length (t .counts)) (length (t .sizes)) (length (t .loads)) (length (t .bytes))
+  pub ready : short ≡ is-short (length x) (length (t .cells)) (length (t .bytes))
       → length o′ ≡ row-cells → Empty x t x t → (j : Judged text kinds places lengths o o′ short n) → Ready text kinds places lengths n o′ x t (j .tokens) (j .guideline)
   ready e lo blank j =
-      let r = roomy (length x) (length (t .kinds)) (length (t .counts)) (length (t .sizes)) (length (t .loads)) (length (t .bytes))
+      let r = roomy (length x) (length (t .cells)) (length (t .bytes))
       (λ k. j .passed limit-stage (length text) (omega arith) (Refusals.short-table (e ∙ k))) in
       let rr = r .rows in
       let sh : length text ≤ text-limit = at-most (length text) text-limit (λ k. j .passed text-stage (length text) (omega arith) (long k)) in
@@ -171,7 +155,7 @@ module _ {text kinds places lengths o o′ x : List ℕ} {t : Table} {n : ℕ} {
         there = omega arith;
         sound = record { clean = clean (j .stand) (λ i v a b. j .passed limit-stage (v .place) (omega arith) (token-breach (j .its) a b)); short = sh };
         few = omega arith;
-        wide = record { kinds = r .codes; counts = r .counts; sizes = r .sizes; loads = r .loads };
+        wide = record { cells = r .cells };
         bytes = r .bytes;
         blank = blank;
       }
@@ -184,7 +168,7 @@ judged {text} {kinds} {places} {lengths} {o} {o′} {short} judges lo f l = subs
 
 module _ {text kinds places lengths o o′ x : List ℕ} {t : Table} {short : Bool} {v : Verdict}
     (judges : Judges text kinds places lengths o o′ short v)
-    (e : short ≡ is-short (length x) (length (t .kinds)) (length (t .counts)) (length (t .sizes)) (length (t .loads)) (length (t .bytes)))
+    (e : short ≡ is-short (length x) (length (t .cells)) (length (t .bytes)))
     (lo : length o ≡ row-cells) (lo′ : length o′ ≡ row-cells) where
   pub refusing : {n p : ℕ} → v ≡ Refused n p → Structured text kinds places lengths x t x t (Reading.Refused n p)
   refusing {n} {p} f = record { reply = λ l b. (subst (λ (s : Bool). Turned (s ≡ true) text n p) e (judged judges lo f l), b) }
@@ -227,43 +211,31 @@ module _ {x y : List ℕ} {t u : Table} (e : Empty x t y u) where
   still-blank : Empty y u y u
   still-blank = record {
     rows = blank-self y x (e .rows);
-    kinds = blank-self (u .kinds) (t .kinds) (e .kinds);
-    counts = blank-self (u .counts) (t .counts) (e .counts);
-    sizes = blank-self (u .sizes) (t .sizes) (e .sizes);
-    loads = blank-self (u .loads) (t .loads) (e .loads);
+    parts = blank-self (u .cells) (t .cells) (e .parts);
     bytes = blank-self (u .bytes) (t .bytes) (e .bytes);
   }
 
   as-long : AsLong y x u t
   as-long = record {
     cells = blank-long y x (e .rows);
-    kinds = blank-long (u .kinds) (t .kinds) (e .kinds);
-    counts = blank-long (u .counts) (t .counts) (e .counts);
-    sizes = blank-long (u .sizes) (t .sizes) (e .sizes);
-    loads = blank-long (u .loads) (t .loads) (e .loads);
+    parts = blank-long (u .cells) (t .cells) (e .parts);
     bytes = blank-long (u .bytes) (t .bytes) (e .bytes);
   }
 
   same-short : Short y u ≡ Short x t
-  same-short = let l = as-long in rw (l .cells, l .kinds, l .counts, l .sizes, l .loads, l .bytes) refl
+  same-short = let l = as-long in rw (l .cells, l .parts, l .bytes) refl
 
   re-empty : {z : List ℕ} {w : Table} → Empty y u z w → Empty x t z w
   re-empty h = let l = as-long in record {
     rows = h .rows ∙ ap (λ (n : ℕ). replicate n 0) (l .cells);
-    kinds = h .kinds ∙ ap (λ (n : ℕ). replicate n 0) (l .kinds);
-    counts = h .counts ∙ ap (λ (n : ℕ). replicate n 0) (l .counts);
-    sizes = h .sizes ∙ ap (λ (n : ℕ). replicate n 0) (l .sizes);
-    loads = h .loads ∙ ap (λ (n : ℕ). replicate n 0) (l .loads);
+    parts = h .parts ∙ ap (λ (n : ℕ). replicate n 0) (l .parts);
     bytes = h .bytes ∙ ap (λ (n : ℕ). replicate n 0) (l .bytes);
   }
 
   re-long : {z : List ℕ} {w : Table} → AsLong z y w u → AsLong z x w t
   re-long h = let l = as-long in record {
     cells = h .cells ∙ l .cells;
-    kinds = h .kinds ∙ l .kinds;
-    counts = h .counts ∙ l .counts;
-    sizes = h .sizes ∙ l .sizes;
-    loads = h .loads ∙ l .loads;
+    parts = h .parts ∙ l .parts;
     bytes = h .bytes ∙ l .bytes;
   }
 
@@ -285,26 +257,15 @@ module _ {x y : List ℕ} {t u : Table} (e : Empty x t y u) where
 
 module _ {x z w : List ℕ} {t u v : Table} where
   empties : Empty x t z u → Empty x t w v → (z ≡ w) × (u ≡ v)
-  empties a b = (
-    a .rows ∙ sym (b .rows),
-    same-table (a .kinds ∙ sym (b .kinds)) (a .counts ∙ sym (b .counts)) (a .sizes ∙ sym (b .sizes)) (a .loads ∙ sym (b .loads)) (a .bytes ∙ sym (b .bytes)),
-  )
+  empties a b = (a .rows ∙ sym (b .rows), same-table (a .parts ∙ sym (b .parts)) (a .bytes ∙ sym (b .bytes)))
     where
-      same-table : u .kinds ≡ v .kinds → u .counts ≡ v .counts → u .sizes ≡ v .sizes → u .loads ≡ v .loads → u .bytes ≡ v .bytes → u ≡ v
-      same-table a b c d e =
-          ap (λ (k : List ℕ). table k (u .counts) (u .sizes) (u .loads) (u .bytes)) a
-          ∙ ap (λ (k : List ℕ). table (v .kinds) k (u .sizes) (u .loads) (u .bytes)) b
-          ∙ ap (λ (k : List ℕ). table (v .kinds) (v .counts) k (u .loads) (u .bytes)) c
-          ∙ ap (λ (k : List ℕ). table (v .kinds) (v .counts) (v .sizes) k (u .bytes)) d
-          ∙ ap (λ (k : List ℕ). table (v .kinds) (v .counts) (v .sizes) (v .loads) k) e
+      same-table : u .cells ≡ v .cells → u .bytes ≡ v .bytes → u ≡ v
+      same-table a e = ap (λ (k : List ℕ). table k (u .bytes)) a ∙ ap (table (v .cells)) e
 
   same-lengths : AsLong z x u t → AsLong w x v t → AsLong z w u v
   same-lengths a b = record {
     cells = a .cells ∙ sym (b .cells);
-    kinds = a .kinds ∙ sym (b .kinds);
-    counts = a .counts ∙ sym (b .counts);
-    sizes = a .sizes ∙ sym (b .sizes);
-    loads = a .loads ∙ sym (b .loads);
+    parts = a .parts ∙ sym (b .parts);
     bytes = a .bytes ∙ sym (b .bytes);
   }
 

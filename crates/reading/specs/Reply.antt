@@ -22,12 +22,11 @@ use Rattle.reading.specs.declared.Reading.{Reading}
 use Rattle.reading.specs.declared.Reading.the-variants.{Reads, Refused}
 
 -- a lent table, of so many cells, is shorter than its least length
-abbrev pub is-short : ℕ → ℕ → ℕ → ℕ → ℕ → ℕ → Bool
-is-short rows codes counts sizes loads bytes =
-    ltb rows row-cells || (ltb codes part-limit || (ltb counts part-limit || (ltb sizes part-limit || (ltb loads part-limit || ltb bytes text-limit))))
+abbrev pub is-short : ℕ → ℕ → ℕ → Bool
+is-short rows cells bytes = ltb rows row-cells || (ltb cells (part-limit * 4) || ltb bytes text-limit)
 
 abbrev pub Short : List ℕ → Table → Type 0
-Short x t = is-short (length x) (length (t .kinds)) (length (t .counts)) (length (t .sizes)) (length (t .loads)) (length (t .bytes)) ≡ true
+Short x t = is-short (length x) (length (t .cells)) (length (t .bytes)) ≡ true
 
 -- a column as long as this one, of zeros
 abbrev pub zeros : List ℕ → List ℕ
@@ -36,10 +35,7 @@ zeros l = replicate (length l) 0
 -- the one empty pattern: all cells of tables as long as x and t are zero
 pub record Empty (x : List ℕ) (t : Table) (x′ : List ℕ) (t′ : Table) : Type 0 where
   pub rows : x′ ≡ zeros x
-  pub kinds : t′ .kinds ≡ zeros (t .kinds)
-  pub counts : t′ .counts ≡ zeros (t .counts)
-  pub sizes : t′ .sizes ≡ zeros (t .sizes)
-  pub loads : t′ .loads ≡ zeros (t .loads)
+  pub parts : t′ .cells ≡ zeros (t .cells)
   pub bytes : t′ .bytes ≡ zeros (t .bytes)
 
 -- the text has its structure, breaks no stage up to the limits, and the tables hold it, n rows, cell by cell

@@ -21,23 +21,13 @@ fn structured(
     places: &[usize],
     lengths: &[usize],
     rows: &mut [u32],
-    codes: &mut [u8],
-    counts: &mut [u32],
-    sizes: &mut [u32],
-    loads: &mut [u32],
+    cells: &mut [u32],
     bytes: &mut [u8],
 ) -> Reading
-    ensures { λ r. ⌜ Structured (now (text .entry)) (now (kinds .entry)) (now (places .entry)) (now (lengths .entry)) (now (rows .entry)) (table (now (codes .entry)) (now (counts .entry)) (now (sizes .entry)) (now (loads .entry)) (now (bytes .entry))) (now (rows .exit)) (table (now (codes .exit)) (now (counts .exit)) (now (sizes .exit)) (now (loads .exit)) (now (bytes .exit))) r ⌝ }
+    ensures { λ r. ⌜ Structured (now (text .entry)) (now (kinds .entry)) (now (places .entry)) (now (lengths .entry)) (now (rows .entry)) (table (now (cells .entry)) (now (bytes .entry))) (now (rows .exit)) (table (now (cells .exit)) (now (bytes .exit))) r ⌝ }
 {
     let mut outline = [0u32; room::ROW_CELLS];
-    let short = room::short(
-        rows.len(),
-        codes.len(),
-        counts.len(),
-        sizes.len(),
-        loads.len(),
-        bytes.len(),
-    );
+    let short = room::short(rows.len(), cells.len(), bytes.len());
     match stages::judge(text, kinds, places, lengths, &mut outline, short) {
         Verdict::Refused(n, p) => Reading::Refused(n, p),
         Verdict::Fine(n) => {
@@ -49,10 +39,7 @@ fn structured(
                 n,
                 &outline,
                 rows,
-                codes,
-                counts,
-                sizes,
-                loads,
+                cells,
                 bytes,
             );
             Reading::Reads(n)
@@ -61,16 +48,8 @@ fn structured(
 }
 
 // The tokens, over blank tables.
-fn lexed(
-    text: &[u8],
-    rows: &mut [u32],
-    codes: &mut [u8],
-    counts: &mut [u32],
-    sizes: &mut [u32],
-    loads: &mut [u32],
-    bytes: &mut [u8],
-) -> Reading
-    ensures { λ r. ⌜ Begun (now (text .entry)) (now (rows .entry)) (table (now (codes .entry)) (now (counts .entry)) (now (sizes .entry)) (now (loads .entry)) (now (bytes .entry))) (now (rows .exit)) (table (now (codes .exit)) (now (counts .exit)) (now (sizes .exit)) (now (loads .exit)) (now (bytes .exit))) r ⌝ }
+fn lexed(text: &[u8], rows: &mut [u32], cells: &mut [u32], bytes: &mut [u8]) -> Reading
+    ensures { λ r. ⌜ Begun (now (text .entry)) (now (rows .entry)) (table (now (cells .entry)) (now (bytes .entry))) (now (rows .exit)) (table (now (cells .exit)) (now (bytes .exit))) r ⌝ }
 {
     let mut kinds = [0u8; TokenList::LIMIT];
     let mut places = [0usize; TokenList::LIMIT];
@@ -78,33 +57,14 @@ fn lexed(
     match tokens::tokens(text, &mut kinds, &mut places, &mut lengths) {
         Read::Short => Reading::Refused(6, text.len()),
         Read::Refused(n, p) => Reading::Refused(n, p),
-        Read::Tokens(n) => structured(
-            text,
-            &kinds[..n],
-            &places,
-            &lengths,
-            rows,
-            codes,
-            counts,
-            sizes,
-            loads,
-            bytes,
-        ),
+        Read::Tokens(n) => structured(text, &kinds[..n], &places, &lengths, rows, cells, bytes),
     }
 }
 
 // Reads a guideline. All tables are blank where it is refused.
-pub fn read(
-    text: &[u8],
-    rows: &mut [u32],
-    codes: &mut [u8],
-    counts: &mut [u32],
-    sizes: &mut [u32],
-    loads: &mut [u32],
-    bytes: &mut [u8],
-) -> Reading
-    ensures { λ r. ⌜ Answered (now (text .entry)) (now (rows .entry)) (table (now (codes .entry)) (now (counts .entry)) (now (sizes .entry)) (now (loads .entry)) (now (bytes .entry))) (now (rows .exit)) (table (now (codes .exit)) (now (counts .exit)) (now (sizes .exit)) (now (loads .exit)) (now (bytes .exit))) r ⌝ }
+pub fn read(text: &[u8], rows: &mut [u32], cells: &mut [u32], bytes: &mut [u8]) -> Reading
+    ensures { λ r. ⌜ Answered (now (text .entry)) (now (rows .entry)) (table (now (cells .entry)) (now (bytes .entry))) (now (rows .exit)) (table (now (cells .exit)) (now (bytes .exit))) r ⌝ }
 {
-    tables::blank(rows, codes, counts, sizes, loads, bytes);
-    lexed(text, rows, codes, counts, sizes, loads, bytes)
+    tables::blank(rows, cells, bytes);
+    lexed(text, rows, cells, bytes)
 }

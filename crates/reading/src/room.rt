@@ -8,29 +8,13 @@ use limits::Guideline;
 pub const ROW_CELLS: usize = 10_920;
 
 // Whether one of the tables is shorter than its least length.
-pub fn short(
-    rows: usize,
-    codes: usize,
-    counts: usize,
-    sizes: usize,
-    loads: usize,
-    bytes: usize,
-) -> bool
-    ensures { λ r. ⌜ r ≡ is-short rows codes counts sizes loads bytes ⌝ }
+pub fn short(rows: usize, cells: usize, bytes: usize) -> bool
+    ensures { λ r. ⌜ r ≡ is-short rows cells bytes ⌝ }
 {
     if rows < ROW_CELLS {
         return true;
     }
-    if codes < Expressions::PARTS {
-        return true;
-    }
-    if counts < Expressions::PARTS {
-        return true;
-    }
-    if sizes < Expressions::PARTS {
-        return true;
-    }
-    if loads < Expressions::PARTS {
+    if cells < Expressions::CELLS {
         return true;
     }
     if bytes < Guideline::LIMIT {

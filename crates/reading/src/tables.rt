@@ -25,21 +25,11 @@ fn clear_bytes(column: &mut [u8])
 }
 
 // All tables.
-pub fn blank(
-    rows: &mut [u32],
-    codes: &mut [u8],
-    counts: &mut [u32],
-    sizes: &mut [u32],
-    loads: &mut [u32],
-    bytes: &mut [u8],
-)
-    ensures { λ _. ⌜ Empty (now (rows .entry)) (table (now (codes .entry)) (now (counts .entry)) (now (sizes .entry)) (now (loads .entry)) (now (bytes .entry))) (now (rows .exit)) (table (now (codes .exit)) (now (counts .exit)) (now (sizes .exit)) (now (loads .exit)) (now (bytes .exit))) ⌝ }
+pub fn blank(rows: &mut [u32], cells: &mut [u32], bytes: &mut [u8])
+    ensures { λ _. ⌜ Empty (now (rows .entry)) (table (now (cells .entry)) (now (bytes .entry))) (now (rows .exit)) (table (now (cells .exit)) (now (bytes .exit))) ⌝ }
 {
     clear(rows);
-    clear_bytes(codes);
-    clear(counts);
-    clear(sizes);
-    clear(loads);
+    clear(cells);
     clear_bytes(bytes);
 }
 
@@ -69,29 +59,15 @@ pub fn fill(
     n: usize,
     outline: &[u32],
     rows: &mut [u32],
-    codes: &mut [u8],
-    counts: &mut [u32],
-    sizes: &mut [u32],
-    loads: &mut [u32],
+    cells: &mut [u32],
     bytes: &mut [u8],
 )
-    ensures { λ _. ⌜ Fills (now (text .entry)) (now (kinds .entry)) (now (places .entry)) (now (lengths .entry)) n (now (outline .entry)) (now (rows .entry)) (table (now (codes .entry)) (now (counts .entry)) (now (sizes .entry)) (now (loads .entry)) (now (bytes .entry))) (now (rows .exit)) (table (now (codes .exit)) (now (counts .exit)) (now (sizes .exit)) (now (loads .exit)) (now (bytes .exit))) ⌝ }
+    ensures { λ _. ⌜ Fills (now (text .entry)) (now (kinds .entry)) (now (places .entry)) (now (lengths .entry)) n (now (outline .entry)) (now (rows .entry)) (table (now (cells .entry)) (now (bytes .entry))) (now (rows .exit)) (table (now (cells .exit)) (now (bytes .exit))) ⌝ }
 {
     if outline.len() / 8 < n {
         return;
     }
     copy(outline, rows, n * 8);
-    expressions::fill(
-        text,
-        kinds,
-        places,
-        lengths,
-        n,
-        rows,
-        codes,
-        counts,
-        sizes,
-        loads,
-    );
-    texts::fill(text, places, lengths, n, rows, codes, loads, bytes);
+    expressions::fill(text, kinds, places, lengths, n, rows, cells);
+    texts::fill(text, places, lengths, n, rows, cells, bytes);
 }

@@ -86,7 +86,7 @@ fn resolve(list: &[u8], x: u8, y: u8, z: u8) -> u8
 }
 
 // Section 11: the allowed types of each operator, by the tens of its number.
-pub fn apply(tens: u8, x: u8, y: u8, z: u8) -> u8
+pub fn apply(tens: usize, x: u8, y: u8, z: u8) -> u8
     ensures { λ r. ⌜ r ≡ resolveOf (x ∷ y ∷ z ∷ []) (listOf tens) ⌝ }
 {
     match tens {

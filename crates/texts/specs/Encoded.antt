@@ -1,15 +1,15 @@
--- A guideline in columns of numbers: from its rows every cell of every column follows. Definitions only.
+-- A guideline in tables of numbers: from its rows every cell of every table follows. Definitions only.
 -- Names and texts stand in the text bytes, and parts in the part table, in the order of the rows, one behind the other.
 use Prim.Native.Nat.{ℕ, _+_}
 use mathlib.Core.Path.{_≡_}
 use mathlib.Core.Option.{Option, none, some}
-use mathlib.Core.List.{List, [], _∷_, _++_, map}
+use mathlib.Core.List.{List, [], _∷_, _++_}
 use lib.ListN.{length, getD}
 use Rattle.paper_expressions.specs.Laws.Parentheses.{bare}
 use Rattle.paper_guideline.specs.Structure.{Name, Outermost}
 use Rattle.parts.specs.Texts.{handle}
 use Rattle.parts.specs.Part.{Table}
-use Rattle.parts.specs.Encode.{Part, spelling, encode}
+use Rattle.parts.specs.Encode.{Part, flat, spelling, encode}
 use Rattle.outline.specs.Rows.{Row, kind-of, word-of, name-of, expression-of, flag-of}
 use Rattle.expressions.specs.Filled.{size-in, first-of, end-of, start-of}
 
@@ -72,15 +72,12 @@ cells-of o u (r ∷ rs) = row-cells o u r ++ cells-of (o + length (row-text r)) 
 
 -- ---- the whole
 
--- the column has these cells, and only zeros behind them
+-- the table has these cells, and only zeros behind them
 abbrev pub Has : List ℕ → List ℕ → Type 0
-Has column cells = (i : ℕ) → getD column i 0 ≡ getD cells i 0
+Has table cells = (i : ℕ) → getD table i 0 ≡ getD cells i 0
 
 -- the table x of rows, and the part table t with the text bytes
 pub record Encoded (rows : List Row) (x : List ℕ) (t : Table) : Type 0 where
   pub cells : Has x (cells-of 0 0 rows)
-  pub kinds : Has (t .kinds) (map (λ (p : Part). p .kind) (parts-of 0 rows))
-  pub counts : Has (t .counts) (map (λ (p : Part). p .count) (parts-of 0 rows))
-  pub sizes : Has (t .sizes) (map (λ (p : Part). p .size) (parts-of 0 rows))
-  pub loads : Has (t .loads) (map (λ (p : Part). p .load) (parts-of 0 rows))
+  pub parts : Has (t .cells) (flat (parts-of 0 rows))
   pub bytes : Has (t .bytes) (text-of rows)

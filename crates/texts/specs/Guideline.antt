@@ -26,10 +26,7 @@ use Rattle.texts.specs.Whole.{Blank, Start, Finish, whole}
 -- columns that are all zeros, with cells for every part and bytes for every text that is allowed
 pub record Fresh (x : List ℕ) (t : Table) (b : List ℕ) : Type 0 where
   pub cells : Blank 0 x
-  pub kinds : Blank 0 (t .kinds)
-  pub counts : Blank 0 (t .counts)
-  pub sizes : Blank 0 (t .sizes)
-  pub loads : Blank 0 (t .loads)
+  pub parts : Blank 0 (t .cells)
   pub bytes : Blank 0 b
   pub wide : Wide t
   pub room : text-limit ≤ length b
@@ -41,11 +38,11 @@ pub record Within (c : Source) (l : ℕ) (ts : List Token) (g : List TopLevel) :
   pub sound : Sound c
   pub few : parts-in (flatten g) ≤ part-limit
 
-module _ {text kinds places lengths x x′ y z ks ns ss xs xs′ b b′ : List ℕ} {t : Table} {ts : List Token} {g : List TopLevel} {o : Outlined} {r : Read} {q : ℕ} (f : Fresh x t b)
+module _ {text kinds places lengths x x′ y z p p′ b b′ : List ℕ} {t : Table} {ts : List Token} {g : List TopLevel} {o : Outlined} {r : Read} {q : ℕ} (f : Fresh x t b)
     (w : Within (source text kinds places lengths) (length x) ts g) (outlines : Outlines (source text kinds places lengths) x x′ o)
-    (read : Expressions.Fills (source text kinds places lengths) x′ y t (table ks ns ss xs text) (o .n) r) (move : Gathered.Fills text places lengths y z ks xs xs′ b b′ (o .n) q) where
-  pub guideline-encoded : length y ≡ length x′ → length xs ≡ length (t .loads) → (o .ok ≡ true) × Finish z (table ks ns ss xs′ b′) (flatten g) r q
-  guideline-encoded ly lx =
+    (read : Expressions.Fills (source text kinds places lengths) x′ y t (table p text) (o .n) r) (move : Gathered.Fills text places lengths y z p p′ b b′ (o .n) q) where
+  pub guideline-encoded : length y ≡ length x′ → length p ≡ length (t .cells) → (o .ok ≡ true) × Finish z (table p′ b′) (flatten g) r q
+  guideline-encoded ly lp =
       let d = outlines .done ts g (w .given) in
       let m = d .1 .count in
       let e = enough (w .given) in
@@ -55,10 +52,7 @@ module _ {text kinds places lengths x x′ y z ks ns ss xs xs′ b b′ : List �
         proper = flat-proper g;
         room = room-enough (w .tokens) (structure-flat (w .given .structure)) (w .sound .short) (f .room);
         cells = λ j h. outlines .rest (d .0) j h ∙ f .cells j (omega arith);
-        kinds = f .kinds;
-        counts = f .counts;
-        sizes = f .sizes;
-        loads = f .loads;
+        parts = f .parts;
         bytes = f .bytes;
       } in
-      (d .0, whole s read move ly lx)
+      (d .0, whole s read move ly lp)

@@ -1,5 +1,5 @@
 -- Laws of the second pass: a name, the texts of an expression, a row, and one row more.
--- What the rows before give together is one list for each column, and each row writes behind it.
+-- What the rows before give together is one list for each table, and each row writes behind it.
 use Prim.Native.Nat.{ℕ, zero, suc, _+_, _*_, _≤_, _<_}
 use mathlib.Core.Path.{_≡_, refl, sym, ap, subst, _∙_}
 use mathlib.Core.Bool.{true, false}
@@ -12,7 +12,8 @@ use native.Mathlib.Decide.{decLt}
 use lib.ListN.{length, getD, set, length-append}
 use Rattle.paper_expressions.specs.Laws.Tests.{contra}
 use Rattle.paper_expressions.specs.Limits.{text-limit}
-use Rattle.paper_expressions.specs.Laws.Parentheses.{bare}
+use Rattle.paper_expressions.specs.Expressions.{Expr, Exprs, Atom, IntegerLit, FloatLit, StringLit, Paren, Listing, Apply, ε, _▸_}
+use Rattle.paper_expressions.specs.Laws.Parentheses.{bare, bares}
 use Rattle.paper_expressions.specs.Laws.Search.{at-one}
 use Rattle.paper_expressions.specs.View.{At, at-first, at-later}
 use Rattle.paper_tokens.specs.Lexical.{inner}
@@ -20,7 +21,8 @@ use Rattle.paper_guideline.specs.Refusals.{long-name}
 use Rattle.paper_tokens.specs.Terminals as Terminals
 use Rattle.paper_guideline.specs.Structure.{Name, Outermost}
 use Rattle.parts.specs.Texts.{cells, handle}
-use Rattle.parts.specs.Part.{table, size}
+use Rattle.parts.specs.Part.{table, size, sizes}
+use Rattle.parts.specs.Encode.{Part, flat, flat-length, flat-append, spelling, encode, encodes}
 use Rattle.parts.specs.Kept.{HasText, Kept, holds-kept}
 use Rattle.parts.specs.Operands.{size-pos}
 use Rattle.leaves.specs.declared.names.Span.{Span}
@@ -30,16 +32,16 @@ use Rattle.reader.specs.Store.{bare-size}
 use Rattle.pool.specs.Written.{Written, written-none, written-same, written-one, written-more}
 use Rattle.pool.specs.Pooled.{nowhere, Fits, Below, Gathers}
 use Rattle.pool.specs.Columns.{Rooms}
-use Rattle.pool.specs.Held.{loads-length, gathered-in}
+use Rattle.pool.specs.Held.{gathered-in}
 use Rattle.pool.specs.Beside.{beside-held}
 use Rattle.outline.specs.Rows.{Row, name-of, expression-of, named}
 use Rattle.outline.specs.Made.{Named, NameAt}
 use Rattle.expressions.specs.Filled.{size-in, first-of, end-of, HeldIn, parts-in, parts-before, Parted, Sound}
 use Rattle.expressions.specs.Laws.{row-at, at-below, before-next, before-later, before-le, parted-kept}
-use Rattle.texts.specs.Encoded.{name-text, expression-text, row-text, text-of, behind-name, name-handle, name-place, row-cells, cells-of}
+use Rattle.texts.specs.Encoded.{name-text, expression-text, row-text, text-of, behind-name, expression-parts, parts-of, name-handle, name-place, row-cells, cells-of}
 use Rattle.texts.specs.Kinds.{has-name, is-there, Proper, proper-at}
 use Rattle.texts.specs.Gathered
-use Gathered.{expression-loads, loads-in, Ready, Done, Spells, MovesName, TextsMoved, MovesTexts, RowMoved, MovesRow}
+use Gathered.{Ready, Done, Spells, MovesName, TextsMoved, MovesTexts, RowMoved, MovesRow}
 
 -- ---- the first rows, and what they give together
 
@@ -78,14 +80,14 @@ text-snoc : (rs : List Row) (row : Row) → text-of (rs ++ (row ∷ [])) ≡ tex
 text-snoc [] row = append-nil (row-text row)
 text-snoc (r ∷ rs) row = ap (λ (l : List ℕ). row-text r ++ l) (text-snoc rs row) ∙ sym (append-assoc (row-text r) (text-of rs) (row-text row))
 
-loads-snoc : (o : ℕ) (rs : List Row) (row : Row) → loads-in o (rs ++ (row ∷ [])) ≡ loads-in o rs ++ expression-loads (behind-name (o + length (text-of rs)) row) (expression-of row)
-loads-snoc o [] row = append-nil (expression-loads (behind-name o row) (expression-of row)) ∙ ap (λ (q : ℕ). expression-loads (behind-name q row) (expression-of row)) {x = o} {y = o + 0} (omega arith)
-loads-snoc o (r ∷ rs) row =
-    let h = expression-loads (behind-name o r) (expression-of r) in
+parts-snoc : (o : ℕ) (rs : List Row) (row : Row) → parts-of o (rs ++ (row ∷ [])) ≡ parts-of o rs ++ expression-parts (behind-name (o + length (text-of rs)) row) (expression-of row)
+parts-snoc o [] row = append-nil (expression-parts (behind-name o row) (expression-of row)) ∙ ap (λ (q : ℕ). expression-parts (behind-name q row) (expression-of row)) {x = o} {y = o + 0} (omega arith)
+parts-snoc o (r ∷ rs) row =
+    let h = expression-parts (behind-name o r) (expression-of r) in
     let q = o + length (row-text r) in
     let n = length-append (row-text r) (text-of rs) in
-    ap (λ (l : List ℕ). h ++ l) (loads-snoc q rs row ∙ ap (λ (k : ℕ). loads-in q rs ++ expression-loads (behind-name k row) (expression-of row)) {x = q + length (text-of rs)} {y = o + length (text-of (r ∷ rs))} (omega arith))
-    ∙ sym (append-assoc h (loads-in q rs) (expression-loads (behind-name (o + length (text-of (r ∷ rs))) row) (expression-of row)))
+    ap (λ (l : List Part). h ++ l) (parts-snoc q rs row ∙ ap (λ (k : ℕ). parts-of q rs ++ expression-parts (behind-name k row) (expression-of row)) {x = q + length (text-of rs)} {y = o + length (text-of (r ∷ rs))} (omega arith))
+    ∙ sym (append-assoc h (parts-of q rs) (expression-parts (behind-name (o + length (text-of (r ∷ rs))) row) (expression-of row)))
 
 cells-snoc : (o u : ℕ) (rs : List Row) (row : Row) → cells-of o u (rs ++ (row ∷ [])) ≡ cells-of o u rs ++ row-cells (o + length (text-of rs)) (u + parts-in rs) row
 cells-snoc o u [] row =
@@ -99,17 +101,35 @@ cells-snoc o u (r ∷ rs) row =
     ∙ ap (λ (k : ℕ). cells-of q v rs ++ row-cells k (v + parts-in rs) row) {x = q + length (text-of rs)} {y = o + length (text-of (r ∷ rs))} (omega arith)
     ∙ ap (λ (k : ℕ). cells-of q v rs ++ row-cells (o + length (text-of (r ∷ rs))) k row) {x = v + parts-in rs} {y = u + parts-in (r ∷ rs)} (omega arith))
 
-loads-one : (o : ℕ) (e : Option Outermost) → length (expression-loads o e) ≡ size-in e
-loads-one o none = refl
-loads-one o (some x) = loads-length o (bare (x .tree)) ∙ bare-size (x .tree)
+-- without its parentheses an expression has as many parts as with them
+mutual
+  bare-long : (o : ℕ) (e : Expr) → length (encode o (bare e)) ≡ size e
+  bare-long o (Atom a) = refl
+  bare-long o (IntegerLit n) = refl
+  bare-long o (FloatLit n) = refl
+  bare-long o (StringLit s) = refl
+  bare-long o (Paren e) = bare-long o e
+  bare-long o (Listing es) = let h = bares-long o es in simp length-append (omega arith)
+  bare-long o (Apply p es) = let h = bares-long o es in simp length-append (omega arith)
 
-pub loads-long : (o : ℕ) (rs : List Row) → length (loads-in o rs) ≡ parts-in rs
-loads-long o [] = refl
-loads-long o (r ∷ rs) =
-    let h = loads-one (behind-name o r) (expression-of r) in
-    let g = loads-long (o + length (row-text r)) rs in
-    let n = length-append (expression-loads (behind-name o r) (expression-of r)) (loads-in (o + length (row-text r)) rs) in
-    omega arith
+  bares-long : (o : ℕ) (es : Exprs) → length (encodes o (bares es)) ≡ sizes es
+  bares-long o ε = refl
+  bares-long o (e ▸ es) = let h = bare-long o e in let g = bares-long (o + length (spelling (bare e))) es in simp length-append (omega arith)
+
+parts-one : (o : ℕ) (e : Option Outermost) → length (expression-parts o e) ≡ size-in e
+parts-one o none = refl
+parts-one o (some x) = bare-long o (x .tree)
+
+pub parts-long : (o : ℕ) (rs : List Row) → length (flat (parts-of o rs)) ≡ parts-in rs * 4
+parts-long o rs = flat-length (parts-of o rs) ∙ ap (λ (n : ℕ). n * 4) (go o rs)
+  where
+    go : (o : ℕ) (rs : List Row) → length (parts-of o rs) ≡ parts-in rs
+    go o [] = refl
+    go o (r ∷ rs) =
+        let h = parts-one (behind-name o r) (expression-of r) in
+        let g = go (o + length (row-text r)) rs in
+        let n = length-append (expression-parts (behind-name o r) (expression-of r)) (parts-of (o + length (row-text r)) rs) in
+        omega arith
 
 pub cells-long : (o u : ℕ) (rs : List Row) → length (cells-of o u rs) ≡ length rs * 8
 cells-long o u [] = refl
@@ -201,26 +221,26 @@ module _ {text places lengths x b : List ℕ} {i o k j : ℕ} {s : Span} (ek : k
 
 -- ---- the texts of an expression
 
-module _ {text x ks xs b : List ℕ} {i o z : ℕ} (ez : z ≡ getD x (i * 8 + 6) 0) where
-  pub texts-none : z ≡ 0 → MovesTexts text x ks xs xs b b i o o
+module _ {text x t b : List ℕ} {i o z : ℕ} (ez : z ≡ getD x (i * 8 + 6) 0) where
+  pub texts-none : z ≡ 0 → MovesTexts text x t t b b i o o
   texts-none e = record { done = none-here }
     where
-      none-here : (ns ss : List ℕ) (u : ℕ) (e : Option Outermost) → getD x (i * 8 + 4) 0 ≡ first-of u e → getD x (i * 8 + 6) 0 ≡ end-of u e
-          → HeldIn (table ks ns ss xs text) u e → u + size-in e ≤ length xs → Fits b (o + length (expression-text e)) → TextsMoved ks ns ss xs xs b b u o o e
-      none-here ns ss u none ef ee h l f = record { ends = omega arith; loads = written-none xs u; bytes = written-none b o; held = tt; below = λ p y g t. absurd (omega arith) }
-      none-here ns ss u (some y) ef ee h l f = absurd (omega (arith, size-pos (y .tree)))
+      none-here : (u : ℕ) (e : Option Outermost) → getD x (i * 8 + 4) 0 ≡ first-of u e → getD x (i * 8 + 6) 0 ≡ end-of u e
+          → HeldIn (table t text) u e → (u + size-in e) * 4 ≤ length t → Fits b (o + length (expression-text e)) → TextsMoved t t b b u o o e
+      none-here u none ef ee h l f = record { ends = omega arith; parts = written-none t (u * 4); bytes = written-none b o; held = tt; below = λ p y g k. absurd (omega arith) }
+      none-here u (some y) ef ee h l f = absurd (omega (arith, size-pos (y .tree)))
 
-  pub texts-moved : {xs′ b′ : List ℕ} {a r : ℕ} → a ≡ getD x (i * 8 + 4) 0 → ¬ (z ≡ 0) → Gathers text ks xs xs′ b b′ a z o r → MovesTexts text x ks xs xs′ b b′ i o r
-  texts-moved {xs′} {b′} {a} {r} ea n g = record { done = some-here }
+  pub texts-moved : {t′ b′ : List ℕ} {a r : ℕ} → a ≡ getD x (i * 8 + 4) 0 → ¬ (z ≡ 0) → Gathers text t t′ b b′ a z o r → MovesTexts text x t t′ b b′ i o r
+  texts-moved {t′} {b′} {a} {r} ea n g = record { done = some-here }
     where
-      some-here : (ns ss : List ℕ) (u : ℕ) (e : Option Outermost) → getD x (i * 8 + 4) 0 ≡ first-of u e → getD x (i * 8 + 6) 0 ≡ end-of u e
-          → HeldIn (table ks ns ss xs text) u e → u + size-in e ≤ length xs → Fits b (o + length (expression-text e)) → TextsMoved ks ns ss xs xs′ b b′ u o r e
-      some-here ns ss u none ef ee h l f = absurd (n (ez ∙ ee))
-      some-here ns ss u (some y) ef ee h l f =
+      some-here : (u : ℕ) (e : Option Outermost) → getD x (i * 8 + 4) 0 ≡ first-of u e → getD x (i * 8 + 6) 0 ≡ end-of u e
+          → HeldIn (table t text) u e → (u + size-in e) * 4 ≤ length t → Fits b (o + length (expression-text e)) → TextsMoved t t′ b b′ u o r e
+      some-here u none ef ee h l f = absurd (n (ez ∙ ee))
+      some-here u (some y) ef ee h l f =
           let s = bare-size (y .tree) in
-          let k = subst (λ (j : ℕ). Gathers text ks xs xs′ b b′ j z o r) (ea ∙ ef) g in
-          let m = gathered-in k ns ss (bare (y .tree)) h (omega arith) (omega arith) f in
-          record { ends = m .ends; loads = m .loads; bytes = m .bytes; held = m .held; below = λ p v w t. m .below p v (omega arith) t }
+          let k = subst (λ (j : ℕ). Gathers text t t′ b b′ j z o r) (ea ∙ ef) g in
+          let m = gathered-in k (bare (y .tree)) h (omega arith) (omega arith) f in
+          record { ends = m .ends; parts = m .cells; bytes = m .bytes; held = m .held; below = λ p v w k. m .below p v (omega arith) k }
 
 -- ---- a row
 
@@ -262,9 +282,9 @@ row-written c {x} {y} {i} {u} o row h w = record {
     beside j (inl g) = inl (omega arith)
     beside j (inr g) = inr (omega arith)
 
-pub row-moved : {text places lengths x y ks xs xs′ b d b′ : List ℕ} {i o p r : ℕ} → MovesName text places lengths x y b d i o p → MovesTexts text y ks xs xs′ d b′ i p r
-    → MovesRow text places lengths x y ks xs xs′ b b′ i o r
-row-moved {text} {places} {lengths} {x} {y} {ks} {xs} {xs′} {b} {d} {b′} {i} {o} {p} {r} name texts kinds ns ss u row h q sd hd lx li ft =
+pub row-moved : {text places lengths x y t t′ b d b′ : List ℕ} {i o p r : ℕ} → MovesName text places lengths x y b d i o p → MovesTexts text y t t′ d b′ i p r
+    → MovesRow text places lengths x y t t′ b b′ i o r
+row-moved {text} {places} {lengths} {x} {y} {t} {t′} {b} {d} {b′} {i} {o} {p} {r} name texts kinds u row h q sd hd lx li ft =
     let e = expression-of row in
     let a = length-append (name-text (name-of row)) (expression-text e) in
     let fb = ft .bytes in
@@ -272,62 +292,56 @@ row-moved {text} {places} {lengths} {x} {y} {ks} {xs} {xs′} {b} {d} {b′} {i}
     let n = name kinds u row h q sd (record { bytes = omega arith; places = omega arith }) in
     let ne = n .ends in
     let nb = n .bytes .long in
-    let t = texts .done ns ss u e (n .cells .outside (i * 8 + 4) (inr (omega arith)) ∙ h .first) (n .cells .outside (i * 8 + 6) (inr (omega arith)) ∙ h .end) hd lx (record { bytes = omega arith; places = omega arith }) in
-    let te = t .ends in
+    let m = texts .done u e (n .cells .outside (i * 8 + 4) (inr (omega arith)) ∙ h .first) (n .cells .outside (i * 8 + 6) (inr (omega arith)) ∙ h .end) hd lx (record { bytes = omega arith; places = omega arith }) in
+    let te = m .ends in
     record {
       ends = omega arith;
       cells = row-written (source text kinds places lengths) o row h (n .cells);
-      loads = subst (λ (k : ℕ). Written xs xs′ u (expression-loads k e)) ne (t .loads);
-      bytes = written-more (n .bytes) ne (t .bytes);
-      held = t .held;
-      below = t .below;
+      parts = subst (λ (k : ℕ). Written t t′ (u * 4) (flat (expression-parts k e))) ne (m .parts);
+      bytes = written-more (n .bytes) ne (m .bytes);
+      held = m .held;
+      below = m .below;
     }
 
 -- ---- one row more
 
 -- the first i rows are moved: their texts stand up to o
-pub record Now (x y ks ns ss xs xs′ b b′ : List ℕ) (i o : ℕ) (rows : List Row) : Type 0 where
+pub record Now (x y t t′ b b′ : List ℕ) (i o : ℕ) (rows : List Row) : Type 0 where
   pub used : o ≡ length (text-of (first i rows))
   pub cells : Written x y 0 (cells-of 0 0 (first i rows))
-  pub loads : Written xs xs′ 0 (loads-in 0 (first i rows))
+  pub parts : Written t t′ 0 (flat (parts-of 0 (first i rows)))
   pub bytes : Written b b′ 0 (text-of (first i rows))
-  pub held : (j : ℕ) (row : Row) → At rows j row → j < i → HeldIn (table ks ns ss xs′ b′) (parts-before j rows) (expression-of row)
-  pub below : (p : ℕ) → p < parts-before i rows → HasText (getD ks p 0) → Below o (getD xs′ p 0)
+  pub held : (j : ℕ) (row : Row) → At rows j row → j < i → HeldIn (table t′ b′) (parts-before j rows) (expression-of row)
+  pub below : (p : ℕ) → p < parts-before i rows → HasText (getD t′ (p * 4) 0) → Below o (getD t′ (p * 4 + 3) 0)
 
-pub now-first : (x ks ns ss xs b : List ℕ) (rows : List Row) → Now x x ks ns ss xs xs b b 0 0 rows
-now-first x ks ns ss xs b rows = record {
+pub now-first : (x t b : List ℕ) (rows : List Row) → Now x x t t b b 0 0 rows
+now-first x t b rows = record {
   used = refl;
   cells = written-none x 0;
-  loads = written-none xs 0;
+  parts = written-none t 0;
   bytes = written-none b 0;
   held = λ j row a h. absurd (not-suc-le-zero h);
-  below = λ p h t. absurd (not-suc-le-zero h);
+  below = λ p h k. absurd (not-suc-le-zero h);
 }
 
--- an expression over the text, where loads behind its place are kept
-held-still : (ks ns ss xs xs′ b : List ℕ) (u : ℕ) (e : Option Outermost) → ((p : ℕ) → u ≤ p → getD xs′ p 0 ≡ getD xs p 0) → HeldIn (table ks ns ss xs b) u e → HeldIn (table ks ns ss xs′ b) u e
-held-still ks ns ss xs xs′ b u none f h = tt
-held-still ks ns ss xs xs′ b u (some y) f h =
-    let k : Kept (table ks ns ss xs b) (table ks ns ss xs′ b) u (u + size (bare (y .tree))) = record {
-      kinds = λ p l g. refl;
-      counts = λ p l g. refl;
-      sizes = λ p l g. refl;
-      loads = λ p l g. f p l;
-      texts = λ p l g t. refl;
-    } in
-    holds-kept (table ks ns ss xs b) (table ks ns ss xs′ b) (bare (y .tree)) u k (omega arith) (omega arith) h
+-- an expression over the text, where parts from its place on are kept
+held-still : (t t′ b : List ℕ) (u : ℕ) (e : Option Outermost) → ((i : ℕ) → u * 4 ≤ i → getD t′ i 0 ≡ getD t i 0) → HeldIn (table t b) u e → HeldIn (table t′ b) u e
+held-still t t′ b u none f h = tt
+held-still t t′ b u (some y) f h =
+    let k : Kept (table t b) (table t′ b) u (u + size (bare (y .tree))) = record { cells = λ i l g. f i l; texts = λ p l g m. refl } in
+    holds-kept (table t b) (table t′ b) (bare (y .tree)) u k (omega arith) (omega arith) h
 
 -- an expression before what is written
-held-before : (ks ns ss : List ℕ) {xs xs′ b b′ s w : List ℕ} {a o : ℕ} (u : ℕ) (e : Option Outermost) → Written xs xs′ a s → Written b b′ o w → u + size-in e ≤ a
-    → ((p : ℕ) → p < a → HasText (getD ks p 0) → Below o (getD xs p 0)) → HeldIn (table ks ns ss xs b) u e → HeldIn (table ks ns ss xs′ b′) u e
-held-before ks ns ss u none hl hb l f h = tt
-held-before ks ns ss u (some y) hl hb l f h =
+held-before : {t t′ b b′ s w : List ℕ} {a o : ℕ} (u : ℕ) (e : Option Outermost) → Written t t′ (a * 4) s → Written b b′ o w → u + size-in e ≤ a
+    → ((p : ℕ) → p < a → HasText (getD t (p * 4) 0) → Below o (getD t (p * 4 + 3) 0)) → HeldIn (table t b) u e → HeldIn (table t′ b′) u e
+held-before u none hl hb l f h = tt
+held-before u (some y) hl hb l f h =
     let z = bare-size (y .tree) in
-    beside-held ks ns ss hl hb (bare (y .tree)) u (inl (omega arith)) (λ p g k t. f p (omega arith) t) h
+    beside-held hl hb (bare (y .tree)) u (inl (omega arith)) (λ p g k m. f p (omega arith) m) h
 
-module _ {text kinds places lengths x y ks ns ss xs xs′ b b′ : List ℕ} {n i o : ℕ} {rows : List Row}
-    (g : Ready (source text kinds places lengths) x ks ns ss xs b n rows) (w : Now x y ks ns ss xs xs′ b b′ i o rows) where
-  module _ {z xs″ b″ : List ℕ} {r : ℕ} (moves : MovesRow text places lengths y z ks xs′ xs″ b′ b″ i o r) (more : i < n) where
+module _ {text kinds places lengths x y t t′ b b′ : List ℕ} {n i o : ℕ} {rows : List Row}
+    (g : Ready (source text kinds places lengths) x t b n rows) (w : Now x y t t′ b b′ i o rows) where
+  module _ {z t″ b″ : List ℕ} {r : ℕ} (moves : MovesRow text places lengths y z t′ t″ b′ b″ i o r) (more : i < n) where
     module _ {row : Row} (at : At rows i row) where
       next : first (i + 1) rows ≡ first i rows ++ (row ∷ [])
       next = ap (λ (k : ℕ). first k rows) {x = i + 1} {y = suc i} (omega arith) ∙ first-next at
@@ -335,8 +349,8 @@ module _ {text kinds places lengths x y ks ns ss xs xs′ b b′ : List ℕ} {n 
       cells-end : length (cells-of 0 0 (first i rows)) ≡ i * 8
       cells-end = let h = g .filled .count in cells-long 0 0 (first i rows) ∙ ap (λ (k : ℕ). k * 8) (first-length i rows (omega arith))
 
-      loads-end : length (loads-in 0 (first i rows)) ≡ (parts-before i rows)
-      loads-end = loads-long 0 (first i rows) ∙ first-parts i rows
+      parts-end : length (flat (parts-of 0 (first i rows))) ≡ parts-before i rows * 4
+      parts-end = parts-long 0 (first i rows) ∙ ap (λ (k : ℕ). k * 4) (first-parts i rows)
 
       text-end : length (text-of (first (i + 1) rows)) ≡ o + length (row-text row)
       text-end =
@@ -344,25 +358,25 @@ module _ {text kinds places lengths x y ks ns ss xs xs′ b b′ : List ℕ} {n 
           let a = length-append (text-of (first i rows)) (row-text row) in
           ap (λ (l : List Row). length (text-of l)) next ∙ ap length (text-snoc (first i rows) row) ∙ omega arith
 
-      moved : RowMoved y z ks ns ss xs′ xs″ b′ b″ i (parts-before i rows) o r row
+      moved : RowMoved y z t′ t″ b′ b″ i (parts-before i rows) o r row
       moved =
           let ce = cells-end in
-          let le = loads-end in
+          let le = parts-end in
           let te = text-end in
           let fs = first-short (i + 1) rows in
           let gb = g .room .bytes in
           let gp = g .room .places in
           let wb = w .bytes .long in
-          let wl = w .loads .long in
+          let wl = w .parts .long in
           let wc = w .cells .long in
           let gl = g .parts in
           let gc = g .cells in
           let bn = before-next at in
           let bl = before-le (suc i) rows in
-          moves kinds ns ss (parts-before i rows) row
+          moves kinds (parts-before i rows) row
           (parted-kept (λ m p q. w .cells .outside m (inr (omega arith))) (g .filled .cells i row at))
           (proper-at at (g .proper)) (g .sound)
-          (held-still ks ns ss xs xs′ text (parts-before i rows) (expression-of row) (λ p l. w .loads .outside p (inr (omega arith))) (g .filled .held i row at))
+          (held-still t t′ text (parts-before i rows) (expression-of row) (λ p l. w .parts .outside p (inr (omega arith))) (g .filled .held i row at))
           (omega arith) (omega arith) (record { bytes = omega arith; places = omega arith })
 
       cells-there : Written y z (i * 8) (row-cells (0 + length (text-of (first i rows))) (0 + parts-in (first i rows)) row)
@@ -372,23 +386,26 @@ module _ {text kinds places lengths x y ks ns ss xs xs′ b b′ : List ℕ} {n 
           subst (λ (q : ℕ). Written y z (i * 8) (row-cells (0 + length (text-of (first i rows))) q row)) {x = (parts-before i rows)} {y = 0 + parts-in (first i rows)} (omega arith)
           (subst (λ (q : ℕ). Written y z (i * 8) (row-cells q (parts-before i rows) row)) {x = o} {y = 0 + length (text-of (first i rows))} (omega arith) (moved .cells))
 
-      loads-there : Written xs′ xs″ (parts-before i rows) (expression-loads (behind-name (0 + length (text-of (first i rows))) row) (expression-of row))
-      loads-there =
+      parts-there : Written t′ t″ (parts-before i rows * 4) (flat (expression-parts (behind-name (0 + length (text-of (first i rows))) row) (expression-of row)))
+      parts-there =
           let v = w .used in
-          subst (λ (q : ℕ). Written xs′ xs″ (parts-before i rows) (expression-loads (behind-name q row) (expression-of row))) {x = o} {y = 0 + length (text-of (first i rows))} (omega arith) (moved .loads)
+          subst (λ (q : ℕ). Written t′ t″ (parts-before i rows * 4) (flat (expression-parts (behind-name q row) (expression-of row)))) {x = o} {y = 0 + length (text-of (first i rows))} (omega arith) (moved .parts)
 
-      held-then : (j : ℕ) (row′ : Row) → At rows j row′ → Dec (j < i) → j < i + 1 → HeldIn (table ks ns ss xs″ b″) (parts-before j rows) (expression-of row′)
+      held-then : (j : ℕ) (row′ : Row) → At rows j row′ → Dec (j < i) → j < i + 1 → HeldIn (table t″ b″) (parts-before j rows) (expression-of row′)
       held-then j row′ a (yes h) l =
           let bl = before-later i a h in
-          held-before ks ns ss (parts-before j rows) (expression-of row′) (moved .loads) (moved .bytes) (omega arith) (w .below) (w .held j row′ a h)
-      held-then j row′ a (no h) l = subst (λ (q : Row). HeldIn (table ks ns ss xs″ b″) (parts-before j rows) (expression-of q)) (at-one at (subst (λ (k : ℕ). At rows k row′) {x = j} {y = i} (omega arith) a))
-          (subst (λ (k : ℕ). HeldIn (table ks ns ss xs″ b″) (parts-before k rows) (expression-of row)) {x = i} {y = j} (omega arith) (moved .held))
+          held-before (parts-before j rows) (expression-of row′) (moved .parts) (moved .bytes) (omega arith) (w .below) (w .held j row′ a h)
+      held-then j row′ a (no h) l = subst (λ (q : Row). HeldIn (table t″ b″) (parts-before j rows) (expression-of q)) (at-one at (subst (λ (k : ℕ). At rows k row′) {x = j} {y = i} (omega arith) a))
+          (subst (λ (k : ℕ). HeldIn (table t″ b″) (parts-before k rows) (expression-of row)) {x = i} {y = j} (omega arith) (moved .held))
 
-      below-then : (p : ℕ) → Dec (p < (parts-before i rows)) → p < (parts-before i rows) + size-in (expression-of row) → HasText (getD ks p 0) → Below r (getD xs″ p 0)
-      below-then p (yes h) l t = let e = moved .ends in let x = w .below p h t in subst (Below r) (sym (moved .loads .outside p (inl h))) (omega arith)
-      below-then p (no h) l t = moved .below p (omega arith) l t
+      below-then : (p : ℕ) → Dec (p < parts-before i rows) → p < parts-before i rows + size-in (expression-of row) → HasText (getD t″ (p * 4) 0) → Below r (getD t″ (p * 4 + 3) 0)
+      below-then p (yes h) l k =
+          let e = moved .ends in
+          let x = w .below p h (subst HasText (moved .parts .outside (p * 4) (inl (omega arith))) k) in
+          subst (Below r) (sym (moved .parts .outside (p * 4 + 3) (inl (omega arith)))) (omega arith)
+      below-then p (no h) l k = moved .below p (omega arith) l k
 
-      now-with : Now x z ks ns ss xs xs″ b b″ (i + 1) r rows
+      now-with : Now x z t t″ b b″ (i + 1) r rows
       now-with =
           let te = text-end in
           let e = moved .ends in
@@ -397,23 +414,23 @@ module _ {text kinds places lengths x y ks ns ss xs xs′ b b′ : List ℕ} {n 
           record {
             used = omega arith;
             cells = subst (λ (l : List ℕ). Written x z 0 l) (sym (ap (cells-of 0 0) next ∙ cells-snoc 0 0 (first i rows) row)) (written-more (w .cells) (let c = cells-end in omega arith) cells-there);
-            loads = subst (λ (l : List ℕ). Written xs xs″ 0 l) (sym (ap (loads-in 0) next ∙ loads-snoc 0 (first i rows) row)) (written-more (w .loads) (let c = loads-end in omega arith) loads-there);
+            parts = subst (λ (l : List ℕ). Written t t″ 0 l) (sym (ap (λ (l : List Row). flat (parts-of 0 l)) next ∙ ap flat (parts-snoc 0 (first i rows) row) ∙ flat-append (parts-of 0 (first i rows)) _)) (written-more (w .parts) (let c = parts-end in omega arith) parts-there);
             bytes = subst (λ (l : List ℕ). Written b b″ 0 l) (sym (ap text-of next ∙ text-snoc (first i rows) row)) (written-more (w .bytes) (omega arith) (moved .bytes));
             held = λ j row′ a h. held-then j row′ a (decLt j i) h;
-            below = λ p h t. below-then p (decLt p (parts-before i rows)) (subst (λ (k : ℕ). p < k) (ap (λ (k : ℕ). parts-before k rows) {x = i + 1} {y = suc i} (omega arith) ∙ bn) h) t;
+            below = λ p h k. below-then p (decLt p (parts-before i rows)) (subst (λ (k : ℕ). p < k) (ap (λ (k : ℕ). parts-before k rows) {x = i + 1} {y = suc i} (omega arith) ∙ bn) h) k;
           }
 
-    pub now-next : Now x z ks ns ss xs xs″ b b″ (i + 1) r rows
+    pub now-next : Now x z t t″ b b″ (i + 1) r rows
     now-next = let h = g .filled .count in now-with (row-at rows i (omega arith) .1)
 
-  pub now-done : i ≤ n → n ≤ i → Done x y ks ns ss xs xs′ b b′ rows o
+  pub now-done : i ≤ n → n ≤ i → Done x y t t′ b b′ rows o
   now-done f h =
       let m = g .filled .count in
       let e : first i rows ≡ rows = ap (λ (k : ℕ). first k rows) {x = i} {y = length rows} (omega arith) ∙ first-all rows in
       record {
         used = w .used ∙ ap (λ (l : List Row). length (text-of l)) e;
         cells = subst (λ (l : List Row). Written x y 0 (cells-of 0 0 l)) e (w .cells);
-        loads = subst (λ (l : List Row). Written xs xs′ 0 (loads-in 0 l)) e (w .loads);
+        parts = subst (λ (l : List Row). Written t t′ 0 (flat (parts-of 0 l))) e (w .parts);
         bytes = subst (λ (l : List Row). Written b b′ 0 (text-of l)) e (w .bytes);
         held = λ j row a. w .held j row a (omega (arith, at-below a));
       }

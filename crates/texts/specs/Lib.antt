@@ -4,7 +4,6 @@ pub mod Worked
 pub mod Kinds
 pub mod Gathered
 pub mod Laws
-pub mod Laid
 pub mod Whole
 pub mod Room
 pub mod Guideline

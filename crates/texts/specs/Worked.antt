@@ -2,14 +2,14 @@
 use Prim.Native.String.{String}
 use Prim.Native.Nat.{ℕ}
 use mathlib.Core.Path.{_≡_, refl}
-use mathlib.Core.List.{List, [], _∷_, map}
+use mathlib.Core.List.{List, [], _∷_}
 use lib.IntN.{pos}
 use Rattle.paper_expressions.specs.Bytes.{bytes}
 use Rattle.paper_expressions.specs.Operators.{arithmetic, plus}
 use Rattle.paper_expressions.specs.Expressions.{Atom, IntegerLit, StringLit, Paren, Apply, ε, _▸_}
 use Rattle.paper_tokens.specs.Tokens.{“caption”}
 use Rattle.paper_guideline.specs.Structure.{Name, plan}
-use Rattle.parts.specs.Encode.{Part}
+use Rattle.parts.specs.Encode.{flat}
 use Rattle.outline.specs.Rows.{Row, a-task, with-expression, an-assignment}
 use Rattle.texts.specs.Encoded.{text-of, parts-of, cells-of}
 
@@ -35,14 +35,10 @@ pub cells-worked : cells-of 0 0 three
     ∷ []
 cells-worked = refl
 
-pub kinds-worked : map (λ (p : Part). p .kind) (parts-of 0 three) ≡ 4 ∷ 1 ∷ 2 ∷ 10 ∷ []
-kinds-worked = refl
-
-pub counts-worked : map (λ (p : Part). p .count) (parts-of 0 three) ≡ 0 ∷ 0 ∷ 0 ∷ 2 ∷ []
-counts-worked = refl
-
-pub sizes-worked : map (λ (p : Part). p .size) (parts-of 0 three) ≡ 1 ∷ 1 ∷ 1 ∷ 3 ∷ []
-sizes-worked = refl
-
-pub loads-worked : map (λ (p : Part). p .load) (parts-of 0 three) ≡ 66 ∷ 257 ∷ 2000000001 ∷ 0 ∷ []
-loads-worked = refl
+pub parts-worked : flat (parts-of 0 three)
+    ≡ 4 ∷ 0 ∷ 1 ∷ 66
+    ∷ 1 ∷ 0 ∷ 1 ∷ 257
+    ∷ 2 ∷ 0 ∷ 1 ∷ 2000000001
+    ∷ 10 ∷ 2 ∷ 3 ∷ 0
+    ∷ []
+parts-worked = refl

@@ -83,21 +83,20 @@ fn move_name(
 fn move_texts(
     text: &[u8],
     rows: &[u32],
-    codes: &[u8],
-    loads: &mut [u32],
+    cells: &mut [u32],
     bytes: &mut [u8],
     i: usize,
     o: usize,
 ) -> usize
     requires { ⌜ i * 8 + 8 ≤ length (now rows) ⌝ }
-    ensures { λ r. ⌜ MovesTexts (now (text .entry)) (now (rows .entry)) (now (codes .entry)) (now (loads .entry)) (now (loads .exit)) (now (bytes .entry)) (now (bytes .exit)) i o r ⌝ }
+    ensures { λ r. ⌜ MovesTexts (now (text .entry)) (now (rows .entry)) (now (cells .entry)) (now (cells .exit)) (now (bytes .entry)) (now (bytes .exit)) i o r ⌝ }
 {
     let to = number(rows, i * 8 + 6);
     if to == 0 {
         return o;
     }
     let from = number(rows, i * 8 + 4);
-    gather(text, codes, loads, from, to, bytes, o)
+    gather(text, cells, from, to, bytes, o)
 }
 
 // Moves the name and the texts of the row `i`.
@@ -106,19 +105,18 @@ fn move_row(
     places: &[usize],
     lengths: &[usize],
     rows: &mut [u32],
-    codes: &[u8],
-    loads: &mut [u32],
+    cells: &mut [u32],
     bytes: &mut [u8],
     i: usize,
     o: usize,
 ) -> usize
-    ensures { λ r. ⌜ MovesRow (now (text .entry)) (now (places .entry)) (now (lengths .entry)) (now (rows .entry)) (now (rows .exit)) (now (codes .entry)) (now (loads .entry)) (now (loads .exit)) (now (bytes .entry)) (now (bytes .exit)) i o r ⌝ }
+    ensures { λ r. ⌜ MovesRow (now (text .entry)) (now (places .entry)) (now (lengths .entry)) (now (rows .entry)) (now (rows .exit)) (now (cells .entry)) (now (cells .exit)) (now (bytes .entry)) (now (bytes .exit)) i o r ⌝ }
 {
     if rows.len() / 8 <= i {
         return NOWHERE;
     }
     let p = move_name(text, places, lengths, rows, bytes, i, o);
-    move_texts(text, rows, codes, loads, bytes, i, p)
+    move_texts(text, rows, cells, bytes, i, p)
 }
 
 // Moves the names and texts of the first `n` rows to the bytes, one behind the other. Answers how many bytes they are.
@@ -128,16 +126,15 @@ pub fn fill(
     lengths: &[usize],
     n: usize,
     rows: &mut [u32],
-    codes: &[u8],
-    loads: &mut [u32],
+    cells: &mut [u32],
     bytes: &mut [u8],
 ) -> usize
-    ensures { λ r. ⌜ Fills (now (text .entry)) (now (places .entry)) (now (lengths .entry)) (now (rows .entry)) (now (rows .exit)) (now (codes .entry)) (now (loads .entry)) (now (loads .exit)) (now (bytes .entry)) (now (bytes .exit)) n r ⌝ }
+    ensures { λ r. ⌜ Fills (now (text .entry)) (now (places .entry)) (now (lengths .entry)) (now (rows .entry)) (now (rows .exit)) (now (cells .entry)) (now (cells .exit)) (now (bytes .entry)) (now (bytes .exit)) n r ⌝ }
 {
     let mut o = 0;
     let mut i = 0;
     while i < n {
-        o = move_row(text, places, lengths, rows, codes, loads, bytes, i, o);
+        o = move_row(text, places, lengths, rows, cells, bytes, i, o);
         i += 1;
     }
     o

@@ -6,7 +6,6 @@ use mathlib.Core.List.{List, [], _∷_}
 use Prim.Native.Nat.{ℕ, zero, suc, _+_, _-_, _≤_, _<_}
 use native.Mathlib.Nat.{not-suc-le-zero}
 use native.Mathlib.Omega.{arith}
-use lib.ListN.{getD}
 use borrow.Author.Tests.{eq-eqb}
 use Rattle.paper_expressions.specs.Types.{Ty}
 use Rattle.paper_expressions.specs.View.{View, Apart}
@@ -14,7 +13,7 @@ use Rattle.paper_expressions.specs.Expressions.{Expr, Exprs, HasType, HaveTypes
 use Rattle.paper_expressions.specs.Laws.Typing.{one-type}
 use Rattle.paper_expressions.specs.Laws.Parentheses.{bare, type-to-bare, type-of-bare}
 use Rattle.paper_expressions.specs.Laws.Search.{no-clash}
-use Rattle.parts.specs.Part.{Table, Load, sizes, number-of, operands, HoldsAll, Ends, Within, Withins}
+use Rattle.parts.specs.Part.{Table, code-at, count-at, size-at, load-at, Load, sizes, number-of, operands, HoldsAll, Ends, Within, Withins}
 use Rattle.parts.specs.Operands.{ended, within-kids, nth-of, from, from-all, from-step, within-nth, Left, left-all, left-ends, left-step}
 use Rattle.parts.specs.Items.{Items}
 use Rattle.typer.specs.declared.lists.Summary.{Summary}
@@ -71,7 +70,7 @@ module _ (t : Table) (names types : List ℕ) (T p n d : ℕ) where
   )
 
   -- the last that is left has the type x
-  pub going-on : (k q x q′ : ℕ) (s s′ : Summary) → 0 < k → ¬ (x ≡ 0) → Going k q s → Typed t names types T q (d - 1) x → s′ ≡ pushOf x s → q′ ≡ q - getD (t .sizes) (q - 1) 0
+  pub going-on : (k q x q′ : ℕ) (s s′ : Summary) → 0 < k → ¬ (x ≡ 0) → Going k q s → Typed t names types T q (d - 1) x → s′ ≡ pushOf x s → q′ ≡ q - size-at t (q - 1)
       → Going (k - 1) q′ s′
   going-on zero q x q′ s s′ z y g f e u = absurd (not-suc-le-zero z)
   going-on (suc k) q x q′ s s′ z y g f e u = λ v a es apart i b h c w.
@@ -115,12 +114,12 @@ module _ (t : Table) (names types : List ℕ) (T d : ℕ) where
   pub too-deep : (q r : ℕ) → d ≡ 0 → Typed t names types T q d r
   too-deep q r z v e apart i h w = absurd (let x = within-kids e w .0 in omega arith)
 
-  pub by-leaf : (q k x r : ℕ) → k ≡ getD (t .kinds) (q - 1) 0 → k < 5 → x ≡ getD (t .loads) (q - 1) 0 → LeafTyped (t .bytes) names types T k x r → Typed t names types T q d r
+  pub by-leaf : (q k x r : ℕ) → k ≡ code-at t (q - 1) → k < 5 → x ≡ load-at t (q - 1) → LeafTyped (t .bytes) names types T k x r → Typed t names types T q d r
   by-leaf q k x r e l y f v ex apart i h w =
       let o = ended h .root in
       f v ex i (e ∙ o .kinds) l (subst (Load (t .bytes) ex) (sym y) (o .loads))
 
-  pub by-operands : (q k n r : ℕ) (s : Summary) → k ≡ getD (t .kinds) (q - 1) 0 → ¬ (k < 5) → n ≡ getD (t .counts) (q - 1) 0
+  pub by-operands : (q k n r : ℕ) (s : Summary) → k ≡ code-at t (q - 1) → ¬ (k < 5) → n ≡ count-at t (q - 1)
       → Gathered t names types T (q - 1) n d s → r ≡ compoundOf k n s → Typed t names types T q d r
   by-operands q k n r s e l c g y v ex apart i h w =
       let o = ended h in

@@ -1,4 +1,5 @@
 // The types of atoms and constants: 4.1, rules 1 to 4, with the table of 4.3.
+use parts::Code;
 ghost use mathlib.Core.Path.{_≡_};
 ghost use Rattle.typer.specs.Leaves.{inferredOf, AtomTyped, LeafTyped};
 
@@ -21,14 +22,14 @@ fn atom(task: usize, h: usize, bytes: &[u8], names: &[u32], types: &[u8]) -> u8
 }
 
 // Rules 1 to 4, by the kind of the part and its load.
-pub fn leaf(task: usize, kind: u8, load: usize, bytes: &[u8], names: &[u32], types: &[u8]) -> u8
+pub fn leaf(task: usize, kind: usize, load: u32, bytes: &[u8], names: &[u32], types: &[u8]) -> u8
     ensures { λ r. ⌜ LeafTyped (now (bytes .entry)) (now (names .entry)) (now (types .entry)) task kind load r ⌝ }
 {
     match kind {
-        1 => atom(task, load, bytes, names, types),
-        2 => b'I',
-        3 => b'R',
-        4 => b'T',
+        Code::ATOM => atom(task, load as usize, bytes, names, types),
+        Code::INTEGER => b'I',
+        Code::FLOAT => b'R',
+        Code::STRING => b'T',
         _ => 0,
     }
 }

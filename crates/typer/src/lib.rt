@@ -7,6 +7,7 @@ mod lists;
 
 use fitting::Role;
 use lists::Summary;
+use parts::Code;
 ghost use mathlib.Core.Path.{_≡_};
 ghost use Prim.Native.Nat.{_<_};
 ghost use Rattle.parts.specs.Part.{table};
@@ -15,13 +16,13 @@ ghost use Rattle.typer.specs.Typed.{Typed, Gathered};
 ghost use Rattle.typer.specs.Fitting.{Fits};
 
 // A list or an application, from its operands.
-fn compound(kind: u8, n: usize, s: Summary) -> u8
+fn compound(kind: usize, n: usize, s: Summary) -> u8
     ensures { λ r. ⌜ r ≡ compoundOf kind n s ⌝ }
 {
     if !s.typed {
         return 0;
     }
-    if kind == 5 {
+    if kind == Code::LIST {
         return s.list;
     }
     if 3 < n {
@@ -32,10 +33,7 @@ fn compound(kind: u8, n: usize, s: Summary) -> u8
 
 // The types of the `n` operands that end at `p`, from the last to the first.
 fn operands(
-    kinds: &[u8],
-    counts: &[u32],
-    sizes: &[u32],
-    loads: &[u32],
+    cells: &[u32],
     bytes: &[u8],
     names: &[u32],
     types: &[u8],
@@ -45,29 +43,18 @@ fn operands(
     depth: usize,
 ) -> Summary
     requires { ⌜ 0 < depth ⌝ }
-    ensures { λ r. ⌜ Gathered (table (now (kinds .entry)) (now (counts .entry)) (now (sizes .entry)) (now (loads .entry)) (now (bytes .entry))) (now (names .entry)) (now (types .entry)) task p n depth r ⌝ }
+    ensures { λ r. ⌜ Gathered (table (now (cells .entry)) (now (bytes .entry))) (now (names .entry)) (now (types .entry)) task p n depth r ⌝ }
 {
     let mut s = lists::start();
     let mut q = p;
     let mut k = n;
     while 0 < k {
-        let t = type_of(
-            kinds,
-            counts,
-            sizes,
-            loads,
-            bytes,
-            names,
-            types,
-            task,
-            q,
-            depth - 1,
-        );
+        let t = type_of(cells, bytes, names, types, task, q, depth - 1);
         if t == 0 {
             return lists::untyped();
         }
         s = lists::push(t, s);
-        q = parts::back(sizes, q);
+        q = parts::back(cells, q);
         k -= 1;
     }
     s
@@ -75,10 +62,7 @@ fn operands(
 
 // The type of the expression of a task whose parts end before `end`, if it is at most `depth` deep.
 pub fn type_of(
-    kinds: &[u8],
-    counts: &[u32],
-    sizes: &[u32],
-    loads: &[u32],
+    cells: &[u32],
     bytes: &[u8],
     names: &[u32],
     types: &[u8],
@@ -86,7 +70,7 @@ pub fn type_of(
     end: usize,
     depth: usize,
 ) -> u8
-    ensures { λ r. ⌜ Typed (table (now (kinds .entry)) (now (counts .entry)) (now (sizes .entry)) (now (loads .entry)) (now (bytes .entry))) (now (names .entry)) (now (types .entry)) task end depth r ⌝ }
+    ensures { λ r. ⌜ Typed (table (now (cells .entry)) (now (bytes .entry))) (now (names .entry)) (now (types .entry)) task end depth r ⌝ }
 {
     if end == 0 {
         return 0;
@@ -95,33 +79,18 @@ pub fn type_of(
         return 0;
     }
     let p = end - 1;
-    let kind = parts::byte(kinds, p);
-    if kind < 5 {
-        return leaves::leaf(task, kind, parts::number(loads, p), bytes, names, types);
+    let kind = parts::code(cells, p);
+    if kind < Code::LIST {
+        return leaves::leaf(task, kind, parts::load(cells, p), bytes, names, types);
     }
-    let n = parts::number(counts, p);
-    let s = operands(
-        kinds,
-        counts,
-        sizes,
-        loads,
-        bytes,
-        names,
-        types,
-        task,
-        p,
-        n,
-        depth,
-    );
+    let n = parts::count(cells, p);
+    let s = operands(cells, bytes, names, types, task, p, n, depth);
     compound(kind, n, s)
 }
 
 // Whether the expression of a task whose parts end before `end` has a type that fits its role.
 pub fn fits(
-    kinds: &[u8],
-    counts: &[u32],
-    sizes: &[u32],
-    loads: &[u32],
+    cells: &[u32],
     bytes: &[u8],
     names: &[u32],
     types: &[u8],
@@ -130,19 +99,8 @@ pub fn fits(
     depth: usize,
     role: Role,
 ) -> bool
-    ensures { λ r. ⌜ Fits (table (now (kinds .entry)) (now (counts .entry)) (now (sizes .entry)) (now (loads .entry)) (now (bytes .entry))) (now (names .entry)) (now (types .entry)) task end depth role r ⌝ }
+    ensures { λ r. ⌜ Fits (table (now (cells .entry)) (now (bytes .entry))) (now (names .entry)) (now (types .entry)) task end depth role r ⌝ }
 {
-    let found = type_of(
-        kinds,
-        counts,
-        sizes,
-        loads,
-        bytes,
-        names,
-        types,
-        task,
-        end,
-        depth,
-    );
+    let found = type_of(cells, bytes, names, types, task, end, depth);
     fitting::suits(found, names, types, role)
 }

@@ -1,5 +1,5 @@
 -- From the reply of reading to what is decided. No table is short, so a breach is one without short tables.
-use Prim.Native.Nat.{ℕ, _≤_}
+use Prim.Native.Nat.{ℕ, _*_, _≤_}
 use mathlib.Core.Path.{_≡_, subst}
 use mathlib.Core.List.{List}
 use Rattle.paper_expressions.specs.Laws.Tests.{contra}
@@ -52,10 +52,10 @@ module _ {Short : Type 0} (never : ¬ Short) {text : List ℕ} where
 
 -- ---- tables with all cells
 
-module _ {text x z : List ℕ} {t u : Table} {r : Reading} (a : Answered text x t z u r) (rows : length x ≡ row-cells) (kinds : length (t .kinds) ≡ part-limit) (counts : length (t .counts) ≡ part-limit)
-    (sizes : length (t .sizes) ≡ part-limit) (loads : length (t .loads) ≡ part-limit) (bytes : length (t .bytes) ≡ text-limit) where
+module _ {text x z : List ℕ} {t u : Table} {r : Reading} (a : Answered text x t z u r) (rows : length x ≡ row-cells) (cells : length (t .cells) ≡ part-limit * 4)
+    (bytes : length (t .bytes) ≡ text-limit) where
   never : ¬ Short x t
-  never e = contra (rw (rows, kinds, counts, sizes, loads, bytes) at e)
+  never e = contra (rw (rows, cells, bytes) at e)
 
   pub accepted : {n : ℕ} → r ≡ Reading.Reads n → Accepted text
   accepted e =

@@ -17,20 +17,9 @@ pub fn decide(text: &[u8]) -> Verdict
     ensures { λ r. ⌜ Decides (now (text .entry)) r ⌝ }
 {
     let mut rows = [0u32; ROWS];
-    let mut codes = [0u8; Expressions::PARTS];
-    let mut counts = [0u32; Expressions::PARTS];
-    let mut sizes = [0u32; Expressions::PARTS];
-    let mut loads = [0u32; Expressions::PARTS];
+    let mut cells = [0u32; Expressions::CELLS];
     let mut bytes = [0u8; Guideline::LIMIT];
-    match reading::read(
-        text,
-        &mut rows,
-        &mut codes,
-        &mut counts,
-        &mut sizes,
-        &mut loads,
-        &mut bytes,
-    ) {
+    match reading::read(text, &mut rows, &mut cells, &mut bytes) {
         Reading::Reads(_) => Verdict::Reads,
         Reading::Refused(number, place) => Verdict::Refused(number, place),
     }

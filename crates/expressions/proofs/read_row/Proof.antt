@@ -14,10 +14,10 @@ returns-2 : tie.Need-returns-2
 returns-2 c = turns-none (c .before .number .ensures) (c .if2 .taken)
 
 returns-3 : tie.Need-returns-3
-returns-3 c = turns-refused (c .before .before .before .before .before .before .before .before .before .before .before .before .before .before .before .before .number2 .ensures) (c .before .before .before .before .before .before .before .before .before .before .before .before .before .before .before .before .before .before .before .number .ensures) refl (c .before .before .before .before .before .before .before .before .before .before .before .before .before .before .before .before .before .before .if2 .left) (c .before .before .before .before .before .before .before .before .before .before .before .read-expression .ensures) (not-true _ (c .before .if3 .taken))
+returns-3 c = turns-refused (c .before .before .before .before .before .before .before .number2 .ensures) (c .before .before .before .before .before .before .before .before .before .before .number .ensures) refl (c .before .before .before .before .before .before .before .before .before .if2 .left) (c .before .before .before .before .before .read-expression .ensures) (not-true _ (c .before .if3 .taken))
 
 returns-4 : tie.Need-returns-4
-returns-4 c = turns-read (c .before .before .before .before .before .before .before .before .before .before .before .before .before .before .before .before .before .before .before .number2 .ensures) (c .before .before .before .before .before .before .before .before .before .before .before .before .before .before .before .before .before .before .before .before .before .before .number .ensures) refl (c .before .before .before .before .before .before .before .before .before .before .before .before .before .before .before .before .before .before .before .before .before .if2 .left) (c .before .before .before .before .before .before .before .before .before .before .before .before .before .before .read-expression .ensures) (not-false _ (c .before .before .before .before .if3 .left)) (c .before .before .put .ensures)
+returns-4 c = turns-read (c .before .before .before .before .before .before .before .before .before .before .number2 .ensures) (c .before .before .before .before .before .before .before .before .before .before .before .before .before .number .ensures) refl (c .before .before .before .before .before .before .before .before .before .before .before .before .if2 .left) (c .before .before .before .before .before .before .before .before .read-expression .ensures) (not-false _ (c .before .before .before .before .if3 .left)) (c .before .before .put .ensures)
 
 pub read-row-spec : {M : Type 1} → statement M
 read-row-spec =
@@ -28,7 +28,6 @@ read-row-spec =
     (λ c. search needs) (λ c. search needs) (λ c κs. search needs) (λ c. search needs)
     returns-2
     (λ c. search needs) (λ c κs. search needs) (λ c κs. search needs) (λ c κs. search needs) (λ c. search needs) (λ c. search needs)
-    (λ c. search needs) (λ c. search needs) (λ c. search needs)
     returns-3
-    (λ c κs. search needs) (λ c. search needs) (λ c. search needs) (λ c. search needs) (λ c. search needs) (λ c. search needs)
+    (λ c κs. search needs) (λ c. search needs) (λ c. search needs)
     returns-4)

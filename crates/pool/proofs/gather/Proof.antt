@@ -10,16 +10,16 @@ use Rattle.pool.proofs.gather.Statement.{statement}
 use Rattle.pool.proofs.gather.Tie as tie
 
 abbrev Inv-loop : tie.InvT-loop
-Inv-loop text codes loads₀ from to bytes₀ o p₀ i₀ loads bytes p i =
-    (from ≤ i) × (from ≤ to → i ≤ to) × (length loads ≡ length loads₀) × (length bytes ≡ length bytes₀) × Moved text codes loads₀ loads bytes₀ bytes from (i - from) o p
+Inv-loop text cells₀ from to bytes₀ o p₀ i₀ cells bytes p i =
+    (from ≤ i) × (from ≤ to → i ≤ to) × (length cells ≡ length cells₀) × (length bytes ≡ length bytes₀) × Moved text cells₀ cells bytes₀ bytes from (i - from) o p
 
 abbrev μ-loop : tie.MeasureT-loop
-μ-loop text codes loads₀ from to bytes₀ o p₀ i₀ loads bytes p i = to - i
+μ-loop text cells₀ from to bytes₀ o p₀ i₀ cells bytes p i = to - i
 
 loop-holds : tie.Need-loop-holds Inv-loop μ-loop
 loop-holds c =
-    let a = c .before .before .before .before .args in
-    (omega arith, λ h. h, refl, refl, subst (λ (n : ℕ). Moved (a .text .now) (a .codes .now) (a .loads .now) (a .loads .now) (a .bytes .now) (a .bytes .now) (a .from) n (a .o) (a .o)) {x = 0} {y = a .from - a .from} (omega arith) (moved-none _ _ _ _ _ _))
+    let a = c .before .before .before .args in
+    (omega arith, λ h. h, refl, refl, subst (λ (n : ℕ). Moved (a .text .now) (a .cells .now) (a .cells .now) (a .bytes .now) (a .bytes .now) (a .from) n (a .o) (a .o)) {x = 0} {y = a .from - a .from} (omega arith) (moved-none _ _ _ _ _))
 
 loop-again : tie.Need-loop-again Inv-loop μ-loop
 loop-again c =

@@ -15,7 +15,7 @@ returns : tie.Need-returns
 returns c = refusing (c .before .before .before .before .judge .ensures) (c .before .before .before .before .before .before .short .ensures) (length-replicate {A = ℕ} 10920 0) (search needs) (c .before .n .given .1)
 
 returns-2 : tie.Need-returns-2
-returns-2 c = accepting (c .before .before .before .before .before .before .before .before .before .before .before .before .before .before .before .before .before .before .before .before .before .before .before .before .judge .ensures) (c .before .before .before .before .before .before .before .before .before .before .before .before .before .before .before .before .before .before .before .before .before .before .before .before .before .before .short .ensures) (length-replicate {A = ℕ} 10920 0) (search needs) (c .before .before .before .before .before .before .before .before .before .before .before .before .before .before .before .before .before .before .before .before .before .n2 .given .1) (c .before .before .before .before .before .before .before .before .before .before .before .before .fill .ensures)
+returns-2 c = accepting (c .before .before .before .before .before .before .before .before .before .before .before .before .before .before .before .judge .ensures) (c .before .before .before .before .before .before .before .before .before .before .before .before .before .before .before .before .before .short .ensures) (length-replicate {A = ℕ} 10920 0) (search needs) (c .before .before .before .before .before .before .before .before .before .before .before .before .n2 .given .1) (c .before .before .before .before .before .before .fill .ensures)
 
 pub structured-spec : {M : Type 1} → statement M
 structured-spec =
@@ -24,5 +24,5 @@ structured-spec =
     (λ c κs. search needs) (λ c. search needs) (λ c κs. search needs) (λ c. search needs) (λ c. search needs) (λ c. search needs)
     (λ c κs. search needs)
     returns
-    (λ c. search needs) (λ c. search needs) (λ c. search needs) (λ c. search needs) (λ c. search needs) (λ c. search needs)
+    (λ c. search needs) (λ c. search needs) (λ c. search needs)
     returns-2)

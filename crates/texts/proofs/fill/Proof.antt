@@ -13,15 +13,15 @@ use Rattle.texts.proofs.fill.Statement.{statement}
 use Rattle.texts.proofs.fill.Tie as tie
 
 abbrev Inv-loop : tie.InvT-loop
-Inv-loop text places lengths n rows₀ codes loads₀ bytes₀ o₀ i₀ rows loads bytes o i =
-    (i ≤ n) × (length rows ≡ length rows₀) × (length loads ≡ length loads₀) × (length bytes ≡ length bytes₀)
-    × ((kinds ns ss : List ℕ) (l : List Row) → Ready (source text kinds places lengths) rows₀ codes ns ss loads₀ bytes₀ n l → Now rows₀ rows codes ns ss loads₀ loads bytes₀ bytes i o l)
+Inv-loop text places lengths n rows₀ cells₀ bytes₀ o₀ i₀ rows cells bytes o i =
+    (i ≤ n) × (length rows ≡ length rows₀) × (length cells ≡ length cells₀) × (length bytes ≡ length bytes₀)
+    × ((kinds : List ℕ) (l : List Row) → Ready (source text kinds places lengths) rows₀ cells₀ bytes₀ n l → Now rows₀ rows cells₀ cells bytes₀ bytes i o l)
 
 abbrev μ-loop : tie.MeasureT-loop
-μ-loop text places lengths n rows₀ codes loads₀ bytes₀ o₀ i₀ rows loads bytes o i = n - i
+μ-loop text places lengths n rows₀ cells₀ bytes₀ o₀ i₀ rows cells bytes o i = n - i
 
 loop-holds : tie.Need-loop-holds Inv-loop μ-loop
-loop-holds c = (omega arith, refl, refl, refl, λ kinds ns ss l g. now-first _ _ _ _ _ _ l)
+loop-holds c = (omega arith, refl, refl, refl, λ kinds l g. now-first _ _ _ l)
 
 loop-again : tie.Need-loop-again Inv-loop μ-loop
 loop-again c =
@@ -30,7 +30,7 @@ loop-again c =
     let v2 = v .2 in
     let v3 = v .3 in
     let h = c .before .before .before .before .before .before .before .before .before .before .loop-test .taken in
-    (omega arith, omega arith, omega arith, omega arith, λ kinds ns ss l g. now-next g (v .4 kinds ns ss l g) (c .before .before .before .before .before .before .move-row .ensures) h)
+    (omega arith, omega arith, omega arith, omega arith, λ kinds l g. now-next g (v .4 kinds l g) (c .before .before .before .before .before .before .move-row .ensures) h)
 
 same-length : tie.Need-same-length Inv-loop μ-loop
 same-length c = c .before .loop .inv .1
@@ -42,7 +42,7 @@ same-length-3 : tie.Need-same-length-3 Inv-loop μ-loop
 same-length-3 c = c .before .loop .inv .3
 
 returns : tie.Need-returns Inv-loop μ-loop
-returns c = let v = c .before .loop .inv in λ kinds ns ss l g. now-done g (v .4 kinds ns ss l g) (v .0) (c .loop-test .left)
+returns c = let v = c .before .loop .inv in λ kinds l g. now-done g (v .4 kinds l g) (v .0) (c .loop-test .left)
 
 pub fill-spec : {M : Type 1} → statement M
 fill-spec =

@@ -6,7 +6,7 @@ use Rattle.texts.proofs.move_row.Statement.{statement}
 use Rattle.texts.proofs.move_row.Tie as tie
 
 returns : tie.Need-returns
-returns c = λ kinds ns ss u row h q sd hd lx li ft. absurd (omega arith)
+returns c = λ kinds u row h q sd hd lx li ft. absurd (omega arith)
 
 returns-2 : tie.Need-returns-2
 returns-2 c = row-moved (c .before .before .before .before .before .before .before .before .before .before .before .before .move-name .ensures) (c .before .before .before .before .move-texts .ensures)

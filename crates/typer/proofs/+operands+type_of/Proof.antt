@@ -7,8 +7,9 @@ use borrow.Fn.Kinds.{In}
 use borrow.Fn.PlainCycle.{Measures, is, falls, and}
 use Rattle.parts.specs.Part.{table}
 use Rattle.parts.proofs.back.Reads as back-reads
-use Rattle.parts.proofs.byte.Reads as byte-reads
-use Rattle.parts.proofs.number.Reads as number-reads
+use Rattle.parts.proofs.code.Reads as code-reads
+use Rattle.parts.proofs.count.Reads as count-reads
+use Rattle.parts.proofs.load.Reads as load-reads
 use Rattle.typer.specs.declared.lists.Summary.{Summary}
 use Rattle.typer.specs.Typed.{Going, going-first, going-on, going-stop, going-done, nothing-ends, too-deep, by-leaf, by-operands}
 use Rattle.typer.proofs.operands.Reads as operands
@@ -25,23 +26,23 @@ use Rattle.typer.proofs.lists.untyped.Reads as untyped-reads
 use Rattle.typer.proofs.+operands+type_of.{statement}
 use Rattle.typer.proofs.+operands+type_of.Tie.{close}
 
-abbrev μ-operands : Measures 7 operands-kinds.ps ℕ
-μ-operands κs a = 2 * a .1 .1 .1 .1 .1 .1 .1 .1 .1 .1 .0
+abbrev μ-operands : Measures 4 operands-kinds.ps ℕ
+μ-operands κs a = 2 * a .1 .1 .1 .1 .1 .1 .1 .0
 
-abbrev μ-type-of : Measures 7 type-of-kinds.ps ℕ
-μ-type-of κs a = 2 * a .1 .1 .1 .1 .1 .1 .1 .1 .1 .0 + 1
+abbrev μ-type-of : Measures 4 type-of-kinds.ps ℕ
+μ-type-of κs a = 2 * a .1 .1 .1 .1 .1 .1 .0 + 1
 
-abbrev operands-at : ℕ → In 7 operands-kinds.ps
-operands-at t = and 7 operands-kinds.ps (is 7 operands-kinds.ps μ-operands t) operands.Pre
+abbrev operands-at : ℕ → In 4 operands-kinds.ps
+operands-at t = and 4 operands-kinds.ps (is 4 operands-kinds.ps μ-operands t) operands.Pre
 
-abbrev operands-below : ℕ → In 7 operands-kinds.ps
-operands-below t = and 7 operands-kinds.ps (falls 7 operands-kinds.ps _<_ μ-operands t) operands.Pre
+abbrev operands-below : ℕ → In 4 operands-kinds.ps
+operands-below t = and 4 operands-kinds.ps (falls 4 operands-kinds.ps _<_ μ-operands t) operands.Pre
 
-abbrev type-of-at : ℕ → In 7 type-of-kinds.ps
-type-of-at t = and 7 type-of-kinds.ps (is 7 type-of-kinds.ps μ-type-of t) type-of.Pre
+abbrev type-of-at : ℕ → In 4 type-of-kinds.ps
+type-of-at t = and 4 type-of-kinds.ps (is 4 type-of-kinds.ps μ-type-of t) type-of.Pre
 
-abbrev type-of-below : ℕ → In 7 type-of-kinds.ps
-type-of-below t = and 7 type-of-kinds.ps (falls 7 type-of-kinds.ps _<_ μ-type-of t) type-of.Pre
+abbrev type-of-below : ℕ → In 4 type-of-kinds.ps
+type-of-below t = and 4 type-of-kinds.ps (falls 4 type-of-kinds.ps _<_ μ-type-of t) type-of.Pre
 
 abbrev operands-claims : ℕ → operands-lts.Claims
 operands-claims t = (
@@ -59,12 +60,14 @@ operands-claims t = (
 
 abbrev type-of-claims : ℕ → type-of-lts.Claims
 type-of-claims t = (
-  byte-reads.Asked,
-  byte-reads.Learnt,
-  number-reads.Asked,
-  number-reads.Learnt,
+  code-reads.Asked,
+  code-reads.Learnt,
+  load-reads.Asked,
+  load-reads.Learnt,
   leaf-reads.Asked,
   leaf-reads.Learnt,
+  count-reads.Asked,
+  count-reads.Learnt,
   operands-below t,
   operands.Post,
   compound-reads.Asked,
@@ -72,19 +75,19 @@ type-of-claims t = (
 )
 
 abbrev operands-Inv-loop : operands-lts.InvT-loop
-operands-Inv-loop kinds counts sizes loads bytes names types task p n depth s₀ q₀ k₀ s q k =
-    (k ≤ n) × Going (table kinds counts sizes loads bytes) names types task p n depth k q s
+operands-Inv-loop cells bytes names types task p n depth s₀ q₀ k₀ s q k =
+    (k ≤ n) × Going (table cells bytes) names types task p n depth k q s
 
 abbrev operands-μ-loop : operands-lts.MeasureT-loop
-operands-μ-loop kinds counts sizes loads bytes names types task p n depth s₀ q₀ k₀ s q k = k
+operands-μ-loop cells bytes names types task p n depth s₀ q₀ k₀ s q k = k
 
 operands-start-requires : (t : ℕ) → operands-lts.Need-start-requires (operands-claims t) (operands-at t) operands.Post operands-Inv-loop operands-μ-loop
 operands-start-requires t c κs = search needs
 
 operands-loop-holds : (t : ℕ) → operands-lts.Need-loop-holds (operands-claims t) (operands-at t) operands.Post operands-Inv-loop operands-μ-loop
 operands-loop-holds t c =
-    let a = c .before .before .before .before .before .before .before .before .args in
-    (omega arith, going-first (table (a .kinds .now) (a .counts .now) (a .sizes .now) (a .loads .now) (a .bytes .now)) (a .names .now) (a .types .now) (a .task) (a .p) (a .n) (a .depth) (c .start .result) (c .start .ensures))
+    let a = c .before .before .before .before .before .args in
+    (omega arith, going-first (table (a .cells .now) (a .bytes .now)) (a .names .now) (a .types .now) (a .task) (a .p) (a .n) (a .depth) (c .start .result) (c .start .ensures))
 
 operands-sub-type-of : (t : ℕ) → operands-lts.Need-sub-type-of (operands-claims t) (operands-at t) operands.Post operands-Inv-loop operands-μ-loop
 operands-sub-type-of t c = search needs
@@ -97,9 +100,9 @@ operands-untyped-requires t c κs = search needs
 
 operands-returns : (t : ℕ) → operands-lts.Need-returns (operands-claims t) (operands-at t) operands.Post operands-Inv-loop operands-μ-loop
 operands-returns t c =
-    let a = c .before .before .before .before .before .before .before .before .before .before .before .before .before .args in
+    let a = c .before .before .before .before .before .before .before .before .before .before .args in
     let l = c .before .before .before .before .loop in
-    going-stop (table (a .kinds .now) (a .counts .now) (a .sizes .now) (a .loads .now) (a .bytes .now)) (a .names .now) (a .types .now) (a .task) (a .p) (a .n) (a .depth) (l .k) (l .q) (c .before .before .type-of .result) (l .s) (c .untyped .result) (c .before .before .before .loop-test .taken) (c .before .if1 .taken) (l .inv .1) (c .before .before .type-of .ensures) (ap (λ (s : Summary). s .typed) (c .untyped .ensures))
+    going-stop (table (a .cells .now) (a .bytes .now)) (a .names .now) (a .types .now) (a .task) (a .p) (a .n) (a .depth) (l .k) (l .q) (c .before .before .type-of .result) (l .s) (c .untyped .result) (c .before .before .before .loop-test .taken) (c .before .if1 .taken) (l .inv .1) (c .before .before .type-of .ensures) (ap (λ (s : Summary). s .typed) (c .untyped .ensures))
 
 operands-push-requires : (t : ℕ) → operands-lts.Need-push-requires (operands-claims t) (operands-at t) operands.Post operands-Inv-loop operands-μ-loop
 operands-push-requires t c κs = search needs
@@ -115,45 +118,45 @@ operands-loop-less t c = search needs
 
 operands-loop-again : (t : ℕ) → operands-lts.Need-loop-again (operands-claims t) (operands-at t) operands.Post operands-Inv-loop operands-μ-loop
 operands-loop-again t c =
-    let a = c .before .before .before .before .before .before .before .before .before .before .before .before .before .before .args in
+    let a = c .before .before .before .before .before .before .before .before .before .before .before .args in
     let l = c .before .before .before .before .before .loop in
-    (omega arith, going-on (table (a .kinds .now) (a .counts .now) (a .sizes .now) (a .loads .now) (a .bytes .now)) (a .names .now) (a .types .now) (a .task) (a .p) (a .n) (a .depth) (l .k) (l .q) (c .before .before .before .type-of .result) (c .back .result) (l .s) (c .before .push .result) (c .before .before .before .before .loop-test .taken) (c .before .before .if1 .left) (l .inv .1) (c .before .before .before .type-of .ensures) (c .before .push .ensures) (c .back .ensures))
+    (omega arith, going-on (table (a .cells .now) (a .bytes .now)) (a .names .now) (a .types .now) (a .task) (a .p) (a .n) (a .depth) (l .k) (l .q) (c .before .before .before .type-of .result) (c .back .result) (l .s) (c .before .push .result) (c .before .before .before .before .loop-test .taken) (c .before .before .if1 .left) (l .inv .1) (c .before .before .before .type-of .ensures) (c .before .push .ensures) (c .back .ensures))
 
 operands-returns-2 : (t : ℕ) → operands-lts.Need-returns-2 (operands-claims t) (operands-at t) operands.Post operands-Inv-loop operands-μ-loop
 operands-returns-2 t c =
-    let a = c .before .before .before .before .before .before .before .before .before .before .args in
+    let a = c .before .before .before .before .before .before .before .args in
     let l = c .before .loop in
-    going-done (table (a .kinds .now) (a .counts .now) (a .sizes .now) (a .loads .now) (a .bytes .now)) (a .names .now) (a .types .now) (a .task) (a .p) (a .n) (a .depth) (l .k) (l .q) (l .s) (c .loop-test .left) (l .inv .1)
+    going-done (table (a .cells .now) (a .bytes .now)) (a .names .now) (a .types .now) (a .task) (a .p) (a .n) (a .depth) (l .k) (l .q) (l .s) (c .loop-test .left) (l .inv .1)
 
 type-of-returns : (t : ℕ) → type-of-lts.Need-returns (type-of-claims t) (type-of-at t) type-of.Post
 type-of-returns t c =
-    let a = c .before .before .before .before .before .before .before .before .args in
-    nothing-ends (table (a .kinds .now) (a .counts .now) (a .sizes .now) (a .loads .now) (a .bytes .now)) (a .names .now) (a .types .now) (a .task) (a .depth) (a .end) 0 (c .if1 .taken)
+    let a = c .before .before .before .before .before .args in
+    nothing-ends (table (a .cells .now) (a .bytes .now)) (a .names .now) (a .types .now) (a .task) (a .depth) (a .end) 0 (c .if1 .taken)
 
 type-of-returns-2 : (t : ℕ) → type-of-lts.Need-returns-2 (type-of-claims t) (type-of-at t) type-of.Post
 type-of-returns-2 t c =
-    let a = c .before .before .before .before .before .before .before .before .before .args in
-    too-deep (table (a .kinds .now) (a .counts .now) (a .sizes .now) (a .loads .now) (a .bytes .now)) (a .names .now) (a .types .now) (a .task) (a .depth) (a .end) 0 (c .if2 .taken)
+    let a = c .before .before .before .before .before .before .args in
+    too-deep (table (a .cells .now) (a .bytes .now)) (a .names .now) (a .types .now) (a .task) (a .depth) (a .end) 0 (c .if2 .taken)
 
 type-of-sub-p : (t : ℕ) → type-of-lts.Need-sub-p (type-of-claims t) (type-of-at t) type-of.Post
 type-of-sub-p t c = search needs
 
-type-of-byte-requires : (t : ℕ) → type-of-lts.Need-byte-requires (type-of-claims t) (type-of-at t) type-of.Post
-type-of-byte-requires t c κs = search needs
+type-of-code-requires : (t : ℕ) → type-of-lts.Need-code-requires (type-of-claims t) (type-of-at t) type-of.Post
+type-of-code-requires t c κs = search needs
 
-type-of-number-requires : (t : ℕ) → type-of-lts.Need-number-requires (type-of-claims t) (type-of-at t) type-of.Post
-type-of-number-requires t c κs = search needs
+type-of-load-requires : (t : ℕ) → type-of-lts.Need-load-requires (type-of-claims t) (type-of-at t) type-of.Post
+type-of-load-requires t c κs = search needs
 
 type-of-leaf-requires : (t : ℕ) → type-of-lts.Need-leaf-requires (type-of-claims t) (type-of-at t) type-of.Post
 type-of-leaf-requires t c κs = search needs
 
 type-of-returns-3 : (t : ℕ) → type-of-lts.Need-returns-3 (type-of-claims t) (type-of-at t) type-of.Post
 type-of-returns-3 t c =
-    let a = c .before .before .before .before .before .before .before .before .before .before .before .before .before .args in
-    by-leaf (table (a .kinds .now) (a .counts .now) (a .sizes .now) (a .loads .now) (a .bytes .now)) (a .names .now) (a .types .now) (a .task) (a .depth) (a .end) (c .before .before .before .byte .result) (c .before .number .result) (c .leaf .result) (c .before .before .before .byte .ensures) (c .before .before .if3 .taken) (c .before .number .ensures) (c .leaf .ensures)
+    let a = c .before .before .before .before .before .before .before .before .before .before .args in
+    by-leaf (table (a .cells .now) (a .bytes .now)) (a .names .now) (a .types .now) (a .task) (a .depth) (a .end) (c .before .before .before .code .result) (c .before .load .result) (c .leaf .result) (c .before .before .before .code .ensures) (c .before .before .if3 .taken) (c .before .load .ensures) (c .leaf .ensures)
 
-type-of-number-requires-2 : (t : ℕ) → type-of-lts.Need-number-requires-2 (type-of-claims t) (type-of-at t) type-of.Post
-type-of-number-requires-2 t c κs = search needs
+type-of-count-requires : (t : ℕ) → type-of-lts.Need-count-requires (type-of-claims t) (type-of-at t) type-of.Post
+type-of-count-requires t c κs = search needs
 
 type-of-operands-requires : (t : ℕ) → type-of-lts.Need-operands-requires (type-of-claims t) (type-of-at t) type-of.Post
 type-of-operands-requires t c κs = search needs
@@ -163,8 +166,8 @@ type-of-compound-requires t c κs = search needs
 
 type-of-returns-4 : (t : ℕ) → type-of-lts.Need-returns-4 (type-of-claims t) (type-of-at t) type-of.Post
 type-of-returns-4 t c =
-    let a = c .before .before .before .before .before .before .before .before .before .before .before .before .before .before .args in
-    by-operands (table (a .kinds .now) (a .counts .now) (a .sizes .now) (a .loads .now) (a .bytes .now)) (a .names .now) (a .types .now) (a .task) (a .depth) (a .end) (c .before .before .before .before .byte .result) (c .before .before .number2 .result) (c .compound .result) (c .before .operands .result) (c .before .before .before .before .byte .ensures) (λ h. absurd (omega (arith, h, c .before .before .before .if3 .left))) (c .before .before .number2 .ensures) (c .before .operands .ensures) (c .compound .ensures)
+    let a = c .before .before .before .before .before .before .before .before .before .before .before .args in
+    by-operands (table (a .cells .now) (a .bytes .now)) (a .names .now) (a .types .now) (a .task) (a .depth) (a .end) (c .before .before .before .before .code .result) (c .before .before .count .result) (c .compound .result) (c .before .operands .result) (c .before .before .before .before .code .ensures) (λ h. absurd (omega (arith, h, c .before .before .before .if3 .left))) (c .before .before .count .ensures) (c .before .operands .ensures) (c .compound .ensures)
 
 pub +operands+type-of-spec : {M : Type 1} → statement M
 +operands+type-of-spec = close μ-operands μ-type-of (λ t. operands-lts.spec (operands-claims t)
@@ -191,11 +194,11 @@ pub +operands+type-of-spec : {M : Type 1} → statement M
     (type-of-returns t)
     (type-of-returns-2 t)
     (type-of-sub-p t)
-    (type-of-byte-requires t)
-    (type-of-number-requires t)
+    (type-of-code-requires t)
+    (type-of-load-requires t)
     (type-of-leaf-requires t)
     (type-of-returns-3 t)
-    (type-of-number-requires-2 t)
+    (type-of-count-requires t)
     (type-of-operands-requires t)
     (type-of-compound-requires t)
     (type-of-returns-4 t)

@@ -10,16 +10,15 @@ use Rattle.verdict.proofs.decide.Lts as lts
 use Rattle.reading.proofs.read.Reads as read-reads
 
 returns : tie.Need-returns
-returns c = accepted (c .before .before .before .before .before .before .before .before .read .ensures) (length-replicate {A = ℕ} 10920 0) (length-replicate {A = ℕ} 1024 0) (length-replicate {A = ℕ} 1024 0) (length-replicate {A = ℕ} 1024 0) (length-replicate {A = ℕ} 1024 0) (length-replicate {A = ℕ} 16384 0) (c .enum-told .given .1)
+returns c = accepted (c .before .before .before .before .before .read .ensures) (length-replicate {A = ℕ} 10920 0) (length-replicate {A = ℕ} 4096 0) (length-replicate {A = ℕ} 16384 0) (c .enum-told .given .1)
 
 returns-2 : tie.Need-returns-2
-returns-2 c = turned (c .before .before .before .before .before .before .before .before .before .read .ensures) (length-replicate {A = ℕ} 10920 0) (length-replicate {A = ℕ} 1024 0) (length-replicate {A = ℕ} 1024 0) (length-replicate {A = ℕ} 1024 0) (length-replicate {A = ℕ} 1024 0) (length-replicate {A = ℕ} 16384 0) (c .before .number .given .1)
+returns-2 c = turned (c .before .before .before .before .before .before .read .ensures) (length-replicate {A = ℕ} 10920 0) (length-replicate {A = ℕ} 4096 0) (length-replicate {A = ℕ} 16384 0) (c .before .number .given .1)
 
 pub decide-spec : {M : Type 1} → statement M
 decide-spec =
     tie.close
     (tie.spec
-    (λ c. search needs) (λ c. search needs) (λ c. search needs) (λ c. search needs) (λ c. search needs) (λ c. search needs)
-    (λ c κs. search needs) (λ c. search needs) (λ c. search needs)
+    (λ c. search needs) (λ c. search needs) (λ c. search needs) (λ c κs. search needs) (λ c. search needs) (λ c. search needs)
     returns
     returns-2)

@@ -7,7 +7,7 @@ use Rattle.apply.proofs.states.in_state.Tie as tie
 returns : tie.Need-returns
 returns c =
     let a = c .before .before .before .before .before .before .args in
-    state-found (a .bytes .now) (a .tasks .now) (a .states .now) (a .state) (a .h) (c .before .before .find-task .result) (c .byte .result) (c .before .before .find-task .ensures) (c .before .if1 .taken) (c .byte .ensures)
+    state-found (a .bytes .now) (a .tasks .now) (a .states .now) (a .state) (a .h) (c .before .before .find-task .result) (c .number .result) (c .before .before .find-task .ensures) (c .before .if1 .taken) (c .number .ensures)
 
 returns-2 : tie.Need-returns-2
 returns-2 c =

@@ -7,22 +7,22 @@ use Rattle.evaluator.proofs.items.elements.Statement.{statement}
 use Rattle.evaluator.proofs.items.elements.Tie as tie
 
 abbrev Inv-loop : tie.InvT-loop
-Inv-loop tags cells p n l₀ k₀ l k = (k ≤ n) × (n ≤ 16) × (p ≤ 2000000) × Filled tags cells p n k l
+Inv-loop tags nums p n l₀ k₀ l k = (k ≤ n) × (n ≤ 16) × (p ≤ 2000000) × Filled tags nums p n k l
 
 abbrev μ-loop : tie.MeasureT-loop
-μ-loop tags cells p n l₀ k₀ l k = k
+μ-loop tags nums p n l₀ k₀ l k = k
 
 loop-holds : tie.Need-loop-holds Inv-loop μ-loop
-loop-holds c = let a = c .before .before .before .args in (omega arith, omega arith, omega arith, filled-none (a .tags .now) (a .cells .now) (a .p) (a .n) (c .blank .result) (c .blank .ensures))
+loop-holds c = let a = c .before .before .before .args in (omega arith, omega arith, omega arith, filled-none (a .tags .now) (a .nums .now) (a .p) (a .n) (c .blank .result) (c .blank .ensures))
 
 loop-again : tie.Need-loop-again Inv-loop μ-loop
 loop-again c =
     let a = c .before .before .before .before .before .before .before .args in
     let l = c .before .before .before .loop in
-    (omega arith, l .inv .1, l .inv .2, filled-more (a .tags .now) (a .cells .now) (a .p) (a .n) (l .k) (c .before .cell .result) (l .l) (c .put-at .result) (l .inv .1) (c .before .before .loop-test .taken) (l .inv .0) (c .before .cell .ensures) (c .put-at .ensures) (l .inv .3))
+    (omega arith, l .inv .1, l .inv .2, filled-more (a .tags .now) (a .nums .now) (a .p) (a .n) (l .k) (c .before .cell .result) (l .l) (c .put-at .result) (l .inv .1) (c .before .before .loop-test .taken) (l .inv .0) (c .before .cell .ensures) (c .put-at .ensures) (l .inv .3))
 
 returns : tie.Need-returns Inv-loop μ-loop
-returns c = let a = c .before .before .before .before .before .args in let l = c .before .loop in filled-all (a .tags .now) (a .cells .now) (a .p) (a .n) (l .k) (l .l) (c .loop-test .left) (l .inv .3)
+returns c = let a = c .before .before .before .before .before .args in let l = c .before .loop in filled-all (a .tags .now) (a .nums .now) (a .p) (a .n) (l .k) (l .l) (c .loop-test .left) (l .inv .3)
 
 pub elements-spec : {M : Type 1} → statement M
 elements-spec =

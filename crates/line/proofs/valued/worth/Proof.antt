@@ -6,12 +6,11 @@ use Rattle.line.proofs.valued.worth.Statement.{statement}
 use Rattle.line.proofs.valued.worth.Tie as tie
 
 returns : tie.Need-returns
-returns c = λ line h ty q k. with-value h refl (c .before .before .before .before .before .before .before .before .before .before .before .before .before .pre) (c .before .before .before .before .value-of .result) refl (c .before .before .before .before .value-of .ensures) (c .before .before .gives .ensures) q k
+returns c = λ line h ty q k. with-value h refl (c .before .before .before .before .before .before .before .before .before .pre) (c .before .before .before .before .value-of .result) refl (c .before .before .before .before .value-of .ensures) (c .before .before .gives .ensures) q k
 
 pub worth-spec : {M : Type 1} → statement M
 worth-spec =
     tie.close
     (tie.spec
-    (λ c. search needs) (λ c. search needs) (λ c. search needs) (λ c. search needs) (λ c. search needs) (λ c. search needs)
-    (λ c κs. search needs) (λ c κs. search needs) (λ c. search needs)
+    (λ c. search needs) (λ c. search needs) (λ c. search needs) (λ c κs. search needs) (λ c κs. search needs) (λ c. search needs)
     returns)

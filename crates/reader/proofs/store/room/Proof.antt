@@ -15,4 +15,4 @@ returns-3 : tie.Need-returns-3
 returns-3 c = (λ e. contra e, λ a b. absurd (omega arith))
 
 pub room-spec : {M : Type 1} → statement M
-room-spec = tie.close (tie.spec returns returns-2 returns-3 (λ c. search needs))
+room-spec = tie.close (tie.spec returns returns-2 (λ c. search needs) returns-3 (λ c. search needs))

@@ -12,8 +12,8 @@ use Rattle.texts.proofs.fill.Reads as fill-reads′
 returns-2 : tie.Need-returns-2
 returns-2 c =
     record {
-      long = record { cells = search needs; kinds = search needs; counts = search needs; sizes = search needs; loads = search needs; bytes = search needs };
-      done = filled (c .before .before .before .before .before .before .before .before .before .before .before .before .before .before .before .before .before .before .before .before .before .before .before .before .before .before .before .before .before .copy .ensures) (c .before .before .before .before .before .before .before .before .before .before .before .before .before .before .before .before .before .before .before .before .before .fill .ensures) (c .before .before .before .before .before .before .fill2 .ensures) (search needs) (search needs);
+      long = record { cells = search needs; parts = search needs; bytes = search needs };
+      done = filled (c .before .before .before .before .before .before .before .before .before .before .before .before .before .before .before .before .before .before .before .copy .ensures) (c .before .before .before .before .before .before .before .before .before .before .before .before .before .before .fill .ensures) (c .before .before .before .before .before .before .fill2 .ensures) (search needs) (search needs);
     }
 
 pub fill-spec : {M : Type 1} → statement M
@@ -21,5 +21,5 @@ fill-spec =
     tie.close
     (tie.spec
     (λ c. search needs) (λ c. search needs) (λ c κs. search needs) (λ c κs. search needs) (λ c κs. search needs) (λ c. search needs)
-    (λ c. search needs) (λ c. search needs) (λ c. search needs) (λ c. search needs) (λ c. search needs)
+    (λ c. search needs) (λ c. search needs)
     returns-2)
