@@ -7,3 +7,8 @@ pub mod Flags
 pub mod Worked
 pub mod Tally
 pub mod TallyLaws
+pub mod Encoded
+pub mod EncodedLaws
+pub mod OneEncoding
+pub mod Room
+pub mod WorkedTexts

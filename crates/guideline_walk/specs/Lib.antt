@@ -1,0 +1,4 @@
+pub mod Made
+pub mod TotalLaws
+pub mod TextLaws
+pub mod LoopLaws
