@@ -3,7 +3,7 @@
 use crate::number::Number;
 
 /// The infix operators of the first edition, synonyms as one.
-#[derive(Clone, Copy, Debug, PartialEq, Eq)]
+#[derive(Clone, Copy, Debug, PartialEq, Eq, Hash)]
 pub enum Infix {
     Or,
     And,
@@ -25,7 +25,7 @@ pub enum Infix {
 pub const UNARY_MINUS: &str = "-";
 
 /// An expression by its parts.
-#[derive(Clone, Debug, PartialEq, Eq)]
+#[derive(Clone, Debug, PartialEq, Eq, Hash)]
 pub enum Expression {
     /// A name: a data item's, or else a text.
     Atom(String),

@@ -5,7 +5,7 @@ use crate::expression::Expression;
 use crate::types::Type;
 
 /// The classes of task that run in this edition.
-#[derive(Clone, Copy, Debug, PartialEq, Eq)]
+#[derive(Clone, Copy, Debug, PartialEq, Eq, Hash)]
 pub enum TaskClass {
     Plan,
     Action,
@@ -13,7 +13,7 @@ pub enum TaskClass {
 }
 
 /// The states of a task (7.5).
-#[derive(Clone, Copy, Debug, PartialEq, Eq)]
+#[derive(Clone, Copy, Debug, PartialEq, Eq, Hash)]
 pub enum TaskState {
     Dormant,
     InProgress,
@@ -22,7 +22,7 @@ pub enum TaskState {
 }
 
 /// The ten data types that may be declared (4.3).
-#[derive(Clone, Copy, Debug, PartialEq, Eq)]
+#[derive(Clone, Copy, Debug, PartialEq, Eq, Hash)]
 pub enum DeclaredType {
     Text,
     Integer,
@@ -83,21 +83,24 @@ pub struct Source {
 }
 
 impl DeclaredType {
+    /// The names that section 3.3 lists.
+    pub const ALL: [(&'static str, DeclaredType); 10] = [
+        ("text", DeclaredType::Text),
+        ("integer", DeclaredType::Integer),
+        ("boolean", DeclaredType::Boolean),
+        ("datetime", DeclaredType::Datetime),
+        ("date", DeclaredType::Date),
+        ("time", DeclaredType::Time),
+        ("real", DeclaredType::Real),
+        ("setof_text", DeclaredType::SetofText),
+        ("setof_integer", DeclaredType::SetofInteger),
+        ("setof_real", DeclaredType::SetofReal),
+    ];
+
     /// The type that this atom declares; the grammar lets no other atom through.
     pub fn named(name: &str) -> DeclaredType {
-        match name {
-            "text" => DeclaredType::Text,
-            "integer" => DeclaredType::Integer,
-            "boolean" => DeclaredType::Boolean,
-            "datetime" => DeclaredType::Datetime,
-            "date" => DeclaredType::Date,
-            "time" => DeclaredType::Time,
-            "real" => DeclaredType::Real,
-            "setof_text" => DeclaredType::SetofText,
-            "setof_integer" => DeclaredType::SetofInteger,
-            "setof_real" => DeclaredType::SetofReal,
-            _ => unreachable!("section 3.3 has no other data type"),
-        }
+        let found = DeclaredType::ALL.iter().find(|entry| entry.0 == name);
+        found.expect("section 3.3 has no other data type").1
     }
 
     /// The type inferred for references to an item so declared (4.3).

@@ -32,3 +32,9 @@ pub const PARTS_OF_ONE: i64 = 1_000;
 pub const DIGITS_AFTER_POINT: usize = 3;
 /// The largest real, in thousandths; the smallest is its negative.
 pub const REAL_THOUSANDTHS: i64 = 2_000_000_000;
+/// Cycles in one run.
+pub const CYCLES: u64 = 256;
+/// The largest engine time, in seconds.
+pub const ENGINE_TIME: u64 = 4_294_967_295;
+/// The fewest rows of a Changes table that may be lent to a run.
+pub const CHANGES_ROWS: u64 = 1_024;

@@ -7,7 +7,7 @@ use std::fmt;
 use crate::limits;
 
 /// An integer, or a real counted in thousandths.
-#[derive(Clone, Copy, Debug, PartialEq, Eq)]
+#[derive(Clone, Copy, Debug, PartialEq, Eq, Hash)]
 pub enum Number {
     Integer(i64),
     Real(i64),

@@ -2,7 +2,7 @@
 
 use std::fmt;
 
-/// The numbers that load can give.
+/// Why load (1 to 6, 10) or another call (6 to 9) is refused.
 #[derive(Clone, Copy, Debug, PartialEq, Eq)]
 pub enum Reason {
     /// 1: the text is too long or holds a byte over 127.
@@ -15,8 +15,14 @@ pub enum Reason {
     Names,
     /// 5: an expression has no fitting type.
     Types,
-    /// 6: a limit is passed.
+    /// 6: a limit is passed, or a lent table is too short.
     Limit,
+    /// 7: nothing is loaded, or the Exception flag is set.
+    NothingRuns,
+    /// 8: no such task, or no such data item.
+    NoComponent,
+    /// 9: a value that is not unknown and not of the item's declared type.
+    Kind,
     /// 10: something left out of this edition is used.
     LeftOut,
 }
@@ -31,8 +37,16 @@ impl Reason {
             Reason::Names => 4,
             Reason::Types => 5,
             Reason::Limit => 6,
+            Reason::NothingRuns => 7,
+            Reason::NoComponent => 8,
+            Reason::Kind => 9,
             Reason::LeftOut => 10,
         }
+    }
+
+    /// The refusal of a call other than load, which has place 0.
+    pub fn of_call(self) -> Refusal {
+        Refusal { reason: self, place: 0 }
     }
 
     /// Refuses at the smallest of these places, if there is one.
@@ -44,7 +58,7 @@ impl Reason {
     }
 }
 
-/// Why a text is refused, and where.
+/// Why a text or a call is refused, and where.
 #[derive(Clone, Copy, Debug, PartialEq, Eq)]
 pub struct Refusal {
     pub reason: Reason,

@@ -6,7 +6,7 @@ use std::fmt;
 use crate::number::Number;
 
 /// A PROforma value, as far as expressions and data items have them.
-#[derive(Clone, Debug, PartialEq, Eq)]
+#[derive(Clone, Debug, PartialEq, Eq, Hash)]
 pub enum Value {
     Unknown,
     Truth(bool),

@@ -22,7 +22,8 @@ use Rattle.values.specs.declared.scalar.Scalar.{Scalar}
 use Rattle.values.specs.declared.scalar.Scalar.the-variants.{Unknown, Truth, Text}
 use Rattle.values.specs.Meaning.{bytesOf, meaning, meaningL, meaningV, valued, scalarOf}
 use Rattle.operators.specs.Comes.{single-is, lowered, lowered-is}
-use Rattle.apply.specs.Tasks.{Tasks, StateOf, state-code, state-number, task-resolved, task-unresolved}
+use Rattle.apply.specs.Tasks.{Tasks, StateOf, state-code, state-number}
+use Rattle.apply.specs.TaskLaws.{task-resolved, task-unresolved}
 
 -- r is what the functor of the state with the number k gives for the operand a
 abbrev pub Asked : List ℕ → List ℕ → List ℕ → ℕ → Value → Value → Type 0

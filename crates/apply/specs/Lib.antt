@@ -1,3 +1,4 @@
 pub mod Tasks
+pub mod TaskLaws
 pub mod IsIn
 pub mod Applies

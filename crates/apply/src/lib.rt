@@ -5,7 +5,6 @@ mod states;
 mod two;
 
 use parts::Code;
-pub use states::handle;
 use values::Scalar;
 use values::Value;
 ghost use mathlib.Core.List.{[], _∷_};

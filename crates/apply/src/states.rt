@@ -1,38 +1,25 @@
 // "is_dormant", "is_in_progress", "is_discarded" and "is_completed" (11.2.10), over the lent names and states of the tasks.
 ghost use mathlib.Core.Path.{_≡_};
-ghost use Rattle.apply.specs.Tasks.{handleOf, namedb, FoundTask, StateOf};
+ghost use Rattle.paper_expressions.specs.Laws.Search.{alikeb};
+ghost use Rattle.values.specs.Meaning.{bytesOf, handleOf};
+ghost use Rattle.apply.specs.Tasks.{FoundTask, StateOf};
 ghost use Rattle.apply.specs.IsIn.{Asked};
 use values::Handle;
 use values::Scalar;
 use values::Value;
 
-// A text by its number: 64 times its place in the bytes, and its length.
-pub fn handle(x: usize) -> Handle
-    ensures { λ r. ⌜ r ≡ handleOf x ⌝ }
-{
-    Handle {
-        at: x / 64,
-        len: x % 64,
-    }
-}
-
-// Whether the task with the name `x` is named by the text. The root has no name.
+// Whether the name `x` is alike to the text.
 fn named(bytes: &[u8], x: usize, h: Handle) -> bool
-    ensures { λ r. ⌜ r ≡ namedb (now (bytes .entry)) x h ⌝ }
+    ensures { λ r. ⌜ r ≡ alikeb (bytesOf (now (bytes .entry)) (handleOf x)) (bytesOf (now (bytes .entry)) h) ⌝ }
 {
-    if x % 64 == 0 {
-        return false;
-    }
-    let s = values::part(bytes, handle(x));
-    let t = values::part(bytes, h);
-    values::alike(s, t)
+    parts::names::alike(bytes, x / 64, x % 64, h.at, h.len)
 }
 
-// 9.6, where names are apart: the task with that name, or how many tasks there are.
+// 9.6, where names are apart: the task with that name, or a number that no task has. Task 0 is the root, which has no name.
 fn find_task(bytes: &[u8], tasks: &[u32], h: Handle) -> usize
     ensures { λ r. ⌜ FoundTask (now (bytes .entry)) (now (tasks .entry)) h r ⌝ }
 {
-    let mut i = 0;
+    let mut i = 1;
     while i < tasks.len() {
         if named(bytes, parts::number(tasks, i), h) {
             return i;

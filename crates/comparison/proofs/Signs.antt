@@ -59,11 +59,9 @@ beside-real {n} z e k h bs =
 abbrev pub by-text : List ℕ → List ℕ → Scalar → S.Sign
 by-text s bs q = verdict (compS (string s) (kindS (meaning bs q)))
 
-pub beside-text : {q : Scalar} {h : Handle} {x y : List ℕ} {r : S.Sign} (bs s : List ℕ)
-    → q ≡ Text h → x ≡ s → y ≡ bytesOf bs h → r ≡ signed (orderT (folded x) (folded y)) → r ≡ by-text s bs q
-beside-text {h} bs s e k m p =
-    p ∙ ap₂ (λ (u v : List ℕ). signed (orderT (folded u) (folded v))) k m
-    ∙ sym (texts.told _ _ _ (folded s) (folded (bytesOf bs h))) ∙ sym (ap (by-text s bs) e)
+pub beside-text : {q : Scalar} {h : Handle} {r : S.Sign} (bs s : List ℕ) → q ≡ Text h → r ≡ signed (orderT (folded s) (folded (bytesOf bs h))) → r ≡ by-text s bs q
+beside-text {h} bs s e p =
+    p ∙ sym (texts.told _ _ _ (folded s) (folded (bytesOf bs h))) ∙ sym (ap (by-text s bs) e)
 
 -- ---- two scalars, by the variant of the first
 

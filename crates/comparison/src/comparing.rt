@@ -45,11 +45,7 @@ fn comp_text(bytes: &[u8], h: Handle, b: Scalar) -> Sign
         Scalar::Truth(_) => Sign::Unfit,
         Scalar::Int(_) => Sign::Unfit,
         Scalar::Real(_) => Sign::Unfit,
-        Scalar::Text(k) => {
-            let s = values::part(bytes, h);
-            let t = values::part(bytes, k);
-            values::text_order(s, t)
-        }
+        Scalar::Text(k) => values::text_order(bytes, h, k),
     }
 }
 

@@ -3,22 +3,22 @@ use mathlib.Core.Path.{_≡_}
 use mathlib.Core.Bool.{cond}
 use mathlib.Core.List.{List, [], _∷_}
 use mathlib.Core.Option.{Option, none, some}
-use Prim.Native.Nat.{ℕ, zero, suc, _+_, _*_, _-_, _/_, _%_, _≤_}
+use Prim.Native.Nat.{ℕ, zero, suc, _+_, _*_, _-_}
 use lib.Dec.{eqb, ltb}
-use lib.ListN.{getD, length}
+use lib.ListN.{getD}
 use Rattle.paper_expressions.specs.Values as paper
 use Rattle.paper_expressions.specs.Values.{one, sequence}
 use Rattle.paper_expressions.specs.View.{View, Item, At, Apart}
 use Rattle.paper_expressions.specs.Laws.WithinLimits.{Held}
 use Rattle.parts.specs.Texts.{literal}
-use Rattle.parts.specs.Part.{Table, code-at, load-at}
+use Rattle.parts.specs.Part.{Table}
 use Rattle.parts.specs.Items.{Items}
 use Rattle.values.specs.declared.scalar.Scalar.{Scalar}
 use Rattle.values.specs.declared.scalar.Scalar.the-variants.{Unknown, Truth, Text}
 use Rattle.values.specs.declared.list.List as Code
 use Rattle.values.specs.declared.value.Value.{Value}
-use Rattle.values.specs.Meaning.{meaning, meaningL, meaningV, integerOf, realOf}
-use Rattle.apply.specs.Tasks.{handleOf, Tasks}
+use Rattle.values.specs.Meaning.{meaning, meaningL, meaningV, handleOf, integerOf, realOf}
+use Rattle.apply.specs.Tasks.{Tasks}
 
 pub record Columns : Type 0 where
   pub names : List ℕ
@@ -79,20 +79,6 @@ ElementsOf tags nums p n l = (b : List ℕ) → meaningL b l ≡ cellsAt b tags 
 abbrev pub ItemOf : List ℕ → List ℕ → ℕ → Value → Type 0
 ItemOf tags nums i r = (b : List ℕ) → meaningV b r ≡ shownAt b tags nums i
 
--- ---- the texts of the part table: an atom's or a string's lies within the bytes
-
-abbrev pub Inside : List ℕ → ℕ → Type 0
-Inside b x = x / 64 + x % 64 ≤ length b
-
--- of a part of the kind k that loads x
-pub record Spelt (b : List ℕ) (k x : ℕ) : Type 0 where
-  pub atom : k ≡ 1 → Inside b x
-  pub string : k ≡ 4 → Inside b x
-
--- of every part; past the end of the table there is none
-abbrev pub AllSpelt : Table → Type 0
-AllSpelt t = (p : ℕ) → Spelt (t .bytes) (code-at t p) (load-at t p)
-
 -- ---- all that is asked of the tables and the view, whatever the expression
 
 pub record Setting (t : Table) (c : Columns) (v : View) : Type 0 where
@@ -100,4 +86,3 @@ pub record Setting (t : Table) (c : Columns) (v : View) : Type 0 where
   pub held : Held v
   pub items : ShowsItems (t .bytes) (c .names) (c .tags) (c .nums) v
   pub tasks : Tasks (t .bytes) (c .tasks) (c .states) v
-  pub texts : AllSpelt t

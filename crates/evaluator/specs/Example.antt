@@ -1,16 +1,17 @@
--- Law: what the contract says of one small guideline: `if(is_dormant(t), min([a, 5]), 9)`, where the item a holds 3 and the task t is dormant,
--- is 3. So the contract can be met, and its columns mean what their names say. By computing the twins.
+-- Laws: what the contract says of two small guidelines: `if(is_dormant(t), min([a, 5]), 9)`, where the item a holds 3 and the task t is dormant,
+-- is 3; and '' names a task like any other name. So the contract can be met, and its columns mean what their names say. By computing the twins.
 use mathlib.Core.Path.{_≡_, refl, subst}
+use mathlib.Core.Bool.{true}
 use mathlib.Core.List.{[], _∷_}
 use mathlib.Core.Option.{none, some}
-use Prim.Native.Nat.{ℕ, zero, suc, _<_}
+use Prim.Native.Nat.{ℕ}
 use native.Mathlib.Omega.{arith}
 use lib.IntN.{pos}
 use lib.ListN.{getD}
 use Rattle.paper_expressions.specs.Bytes.{bytes}
 use Rattle.paper_expressions.specs.Values as paper
-use Rattle.paper_expressions.specs.Values.{one, integer, dormant, in-progress}
-use Rattle.paper_expressions.specs.Types.{Integer, an-integer}
+use Rattle.paper_expressions.specs.Values.{one, integer, truth, dormant, in-progress}
+use Rattle.paper_expressions.specs.Types.{Integer, TruthValue, an-integer}
 use Rattle.paper_expressions.specs.View.{View, Item, Task, At, at-first, at-later}
 use Rattle.paper_expressions.specs.Operators.{if, extreme, min, is-in}
 use Rattle.paper_expressions.specs.Expressions.{Expr, Atom, IntegerLit, Listing, Apply, ε, _▸_}
@@ -20,12 +21,11 @@ use Rattle.paper_expressions.specs.Laws.Promise.{eval-only}
 use Rattle.paper_expressions.specs.Laws.Soundness.{sound-if}
 use Rattle.parts.specs.Codes.{declared-code}
 use Rattle.parts.specs.Texts.{textAt}
-use Rattle.parts.specs.Part.{Table, table, code-at, load-at, Ends, Within}
+use Rattle.parts.specs.Part.{Table, table, Ends, Within}
 use Rattle.values.specs.declared.value.Value.{Value}
 use Rattle.values.specs.Meaning.{meaningV}
 use Rattle.apply.specs.Tasks.{nameOf, state-number}
-use Rattle.evaluator.specs.Columns.{Columns, columns, shown, shownAt, Spelt, AllSpelt, Setting}
-use Rattle.evaluator.specs.Texts.{spelt-inside, spelt-other, all-spelt}
+use Rattle.evaluator.specs.Columns.{Columns, columns, shown, shownAt, Setting}
 use Rattle.evaluator.specs.Published.{Published}
 
 -- ---- the guideline
@@ -85,7 +85,7 @@ value-at : {i : ℕ} {x : Item} → At (guideline .items) i x → shownAt (bytes
 value-at at-first = refl
 value-at (at-later h) = elim h [ ]
 
-task-at : {i : ℕ} {x : Task} → At (guideline .tasks) i x → x .name ≡ nameOf (bytes "at") (getD (lent .tasks) i 0)
+task-at : {i : ℕ} {x : Task} → At (guideline .tasks) i x → x .name ≡ nameOf (bytes "at") (lent .tasks) i
 task-at at-first = refl
 task-at (at-later at-first) = refl
 task-at (at-later (at-later h)) = elim h [ ]
@@ -95,20 +95,6 @@ state-at at-first = refl
 state-at (at-later at-first) = refl
 state-at (at-later (at-later h)) = elim h [ ]
 
-text-at : AllSpelt parts
-text-at = all-spelt parts 8 (omega arith) each
-  where
-    each : (p : ℕ) → p < 8 → Spelt (bytes "at") (code-at parts p) (load-at parts p)
-    each zero h = spelt-inside {k = 1} (omega arith)
-    each (suc zero) h = spelt-other (λ e. omega arith) (λ e. omega arith)
-    each (suc (suc zero)) h = spelt-inside {k = 1} (omega arith)
-    each (suc (suc (suc zero))) h = spelt-other (λ e. omega arith) (λ e. omega arith)
-    each (suc (suc (suc (suc zero)))) h = spelt-other (λ e. omega arith) (λ e. omega arith)
-    each (suc (suc (suc (suc (suc zero))))) h = spelt-other (λ e. omega arith) (λ e. omega arith)
-    each (suc (suc (suc (suc (suc (suc zero)))))) h = spelt-other (λ e. omega arith) (λ e. omega arith)
-    each (suc (suc (suc (suc (suc (suc (suc zero))))))) h = spelt-other (λ e. omega arith) (λ e. omega arith)
-    each (suc (suc (suc (suc (suc (suc (suc (suc p)))))))) h = absurd (omega arith)
-
 setting : Setting parts lent guideline
 setting =
     record {
@@ -116,7 +102,6 @@ setting =
       held = record { held = small };
       items = record { types = 2 ∷ []; items = record { number = refl; named = name-at; typed = type-at }; values = value-at };
       tasks = record { number = refl; named = task-at; stated = state-at };
-      texts = text-at;
     }
 
 ends : Ends parts 8 expression
@@ -153,4 +138,49 @@ example r f =
     let sound = sound-if guideline refl in
     let v = f guideline expression Integer sound setting ends within modest (type-has guideline 0 expression refl) in
     let e = eval-only guideline 0 (sound .apart) (v .fits) in
+    cc
+
+-- ---- `is_dormant('')`, where a task is named '' and dormant, is true
+
+abbrev nameless : View
+nameless =
+    record {
+      items = [];
+      tasks = record { name = none; parent = none; state = some in-progress } ∷ record { name = some []; parent = some 0; state = some dormant } ∷ [];
+    }
+
+abbrev asks : Expr
+asks = Apply (is-in dormant) (Atom [] ▸ ε)
+
+abbrev two-parts : Table
+two-parts = table (1 ∷ 0 ∷ 1 ∷ 0 ∷ 150 ∷ 1 ∷ 2 ∷ 0 ∷ []) []
+
+abbrev two-tasks : Columns
+two-tasks = columns [] [] [] (0 ∷ 0 ∷ []) (2 ∷ 1 ∷ [])
+
+its-name : {i : ℕ} {x : Task} → At (nameless .tasks) i x → x .name ≡ nameOf [] (two-tasks .tasks) i
+its-name at-first = refl
+its-name (at-later at-first) = refl
+its-name (at-later (at-later h)) = elim h [ ]
+
+its-state : {i : ℕ} {x : Task} → At (nameless .tasks) i x → getD (two-tasks .states) i 0 ≡ state-number (x .state)
+its-state at-first = refl
+its-state (at-later at-first) = refl
+its-state (at-later (at-later h)) = elim h [ ]
+
+its-setting : Setting two-parts two-tasks nameless
+its-setting =
+    record {
+      apart = sound-if nameless refl .apart;
+      held = record { held = λ h. elim h [ ] };
+      items = record { types = []; items = record { number = refl; named = λ h. elim h [ ]; typed = λ h. elim h [ ] }; values = λ h. elim h [ ] };
+      tasks = record { number = refl; named = its-name; stated = its-state };
+    }
+
+pub nameless-example : (r : Value) → Published two-parts two-tasks 0 2 2 r → meaningV [] r ≡ one (truth true)
+nameless-example r f =
+    let sound = sound-if nameless refl in
+    let part : Ends two-parts 2 asks = record { start = 0; spans = refl; held = ((record { kinds = refl; counts = refl; sizes = refl; loads = refl }, tt), record { kinds = refl; counts = refl; sizes = refl; loads = refl }) } in
+    let v = f nameless asks TruthValue sound its-setting part (omega arith, (omega arith, tt)) (apply-modest (more-modest (atom-modest {a = []} (omega arith)) none-modest)) (type-has nameless 0 asks refl) in
+    let e = eval-only nameless 0 (sound .apart) (v .fits) in
     cc

@@ -1,5 +1,4 @@
 pub mod Columns
-pub mod Texts
 pub mod Lists
 pub mod Items
 pub mod Operands

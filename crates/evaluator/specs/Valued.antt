@@ -17,7 +17,7 @@ use Rattle.parts.specs.Operands.{ended, within-kids, nth-of, within-nth, Left, 
 use Rattle.values.specs.declared.value.Value.{Value}
 use Rattle.values.specs.Meaning.{meaningV}
 use Rattle.evaluator.specs.declared.operands.Operands.{Operands}
-use Rattle.evaluator.specs.Columns.{Columns, Setting, Spelt}
+use Rattle.evaluator.specs.Columns.{Columns, Setting}
 use Rattle.evaluator.specs.Operands.{NoneOf, PutOf, Gathers, gathers-none, gathers-more}
 use Rattle.evaluator.specs.Leaves.{LeafOf}
 use Rattle.evaluator.specs.Compound.{CompoundOf, as-many, modest-operands, compound-value}
@@ -100,8 +100,7 @@ module _ (t : Table) (c : Columns) (d : ℕ) where
   pub by-leaf : (q k x : ℕ) (r : Value) → k ≡ code-at t (q - 1) → k < 5 → x ≡ load-at t (q - 1) → LeafOf (t .bytes) (c .names) (c .tags) (c .nums) k x r → Valued t c q d r
   by-leaf q k x r y l z f τ T e cs w s h i m ev =
       let o = ended h .root in
-      let u = subst (λ (j : ℕ). Spelt (t .bytes) j (load-at t (q - 1))) (sym y) (s .texts (q - 1)) in
-      f τ T e cs w (s .apart) (s .items) (subst (Spelt (t .bytes) k) (sym z) u) (y ∙ o .kinds) l (subst (Load (t .bytes) e) (sym z) (o .loads)) m ev
+      f τ T e cs w (s .apart) (s .items) (y ∙ o .kinds) l (subst (Load (t .bytes) e) (sym z) (o .loads)) m ev
 
   pub by-operands : (q k n : ℕ) (r : Value) (o : Operands) → k ≡ code-at t (q - 1) → ¬ (k < 5) → n ≡ count-at t (q - 1)
       → Gathered t c (q - 1) n d o → CompoundOf (t .bytes) (c .tasks) (c .states) k n o r → Valued t c q d r

@@ -3,12 +3,19 @@
 // Of the others it is 1 for a truth value, 2 integer, 3 real, 4 text; any other is unknown.
 ghost use mathlib.Core.Path.{_≡_};
 ghost use Prim.Native.Nat.{_≤_};
+ghost use Rattle.paper_expressions.specs.Limits.{list-limit};
 ghost use Rattle.evaluator.specs.Columns.{scalarAt, cellAt, ElementsOf, ItemOf};
 use super::operands;
 use numbers::Wide;
 use values::List;
 use values::Scalar;
 use values::Value;
+
+// The cells of an item: its shape, and one for each element that a list can have.
+const CELLS: usize = 17;
+
+// No item from here on is read.
+const ITEMS: usize = 65_536;
 
 // The value with that tag and the number `x`.
 pub fn scalar(tag: usize, x: u32) -> Scalar
@@ -22,7 +29,7 @@ pub fn scalar(tag: usize, x: u32) -> Scalar
         3 => values::real(Wide {
             z: parts::literal(x),
         }),
-        4 => Scalar::Text(apply::handle(x as usize)),
+        4 => Scalar::Text(values::handle_of(x as usize)),
         _ => Scalar::Unknown,
     }
 }
@@ -35,7 +42,7 @@ fn cell(tags: &[u32], nums: &[u32], p: usize) -> Scalar
 
 // The list of the `n` cells from `p` on, made from the last to the first.
 fn elements(tags: &[u32], nums: &[u32], p: usize, n: usize) -> List
-    requires { ⌜ (p ≤ 2000000) × (n ≤ 16) ⌝ }
+    requires { ⌜ (p ≤ 2000000) × (n ≤ list-limit) ⌝ }
     ensures { λ r. ⌜ ElementsOf (now (tags .entry)) (now (nums .entry)) p n r ⌝ }
 {
     let mut l = operands::blank(n);
@@ -51,15 +58,15 @@ fn elements(tags: &[u32], nums: &[u32], p: usize, n: usize) -> List
 pub fn value(tags: &[u32], nums: &[u32], i: usize) -> Value
     ensures { λ r. ⌜ ItemOf (now (tags .entry)) (now (nums .entry)) i r ⌝ }
 {
-    if 65536 <= i {
+    if ITEMS <= i {
         return values::single(Scalar::Unknown);
     }
-    let p = 17 * i;
+    let p = CELLS * i;
     let shape = parts::number(tags, p);
     if shape == 0 {
         return values::single(cell(tags, nums, p + 1));
     }
-    if 17 < shape {
+    if CELLS < shape {
         return values::single(Scalar::Unknown);
     }
     values::many(elements(tags, nums, p + 1, shape - 1))

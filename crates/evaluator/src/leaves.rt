@@ -13,7 +13,7 @@ fn atom(h: usize, bytes: &[u8], names: &[u32], tags: &[u32], nums: &[u32]) -> Va
     if i < names.len() {
         return items::value(tags, nums, i);
     }
-    values::single(Scalar::Text(apply::handle(h)))
+    values::single(Scalar::Text(values::handle_of(h)))
 }
 
 // Clauses 1 to 3, by the code of the part and its load. A constant's code is its tag.

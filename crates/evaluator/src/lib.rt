@@ -4,7 +4,6 @@
 mod items;
 mod leaves;
 mod operands;
-pub mod texts;
 
 use operands::Operands;
 use parts::Code;

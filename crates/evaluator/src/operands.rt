@@ -2,6 +2,7 @@
 ghost use mathlib.Core.Path.{_≡_};
 ghost use Prim.Native.Nat.{_<_};
 ghost use lib.ListN.{length};
+ghost use Rattle.paper_expressions.specs.Limits.{list-limit};
 ghost use Rattle.evaluator.specs.Lists.{Put};
 ghost use Rattle.evaluator.specs.Operands.{NoneOf, PutOf};
 use values::Cell;
@@ -18,7 +19,7 @@ pub struct Operands {
 
 // A list of `n`, of which none is put yet.
 pub fn blank(n: usize) -> List
-    ensures { λ r. ⌜ (r .n ≡ n) × (length (r .items) ≡ 16) ⌝ }
+    ensures { λ r. ⌜ (r .n ≡ n) × (length (r .items) ≡ list-limit) ⌝ }
 {
     let l = values::empty();
     let items = l.items;
@@ -27,7 +28,7 @@ pub fn blank(n: usize) -> List
 
 // The list with s in the k-th place, if there is one.
 pub fn put_at(l: List, k: usize, s: Scalar) -> List
-    ensures { λ r. ⌜ (k < 16 → Put k s l r) ⌝ }
+    ensures { λ r. ⌜ (k < list-limit → Put k s l r) ⌝ }
 {
     if k < List::LIST_LIMIT {
         let n = l.n;

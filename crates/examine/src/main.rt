@@ -1,5 +1,7 @@
-// Examines one guideline: reads any bytes from standard input and writes `refused N P` or `reads`; of a refusal then, for people, the line and what is wrong.
+// Examines one guideline: reads any bytes from standard input and writes `refused N P` or `reads`; then, for people, of a refusal the line and what is wrong, and of a guideline that reads the names that are read as text.
+mod bare;
 mod locate;
+mod names;
 mod say;
 mod write;
 
@@ -78,7 +80,10 @@ fn examine(text: &[u8], s: Seen) {
         return;
     }
     match verdict::decide(text) {
-        Verdict::Reads => write::text(b"reads\n"),
+        Verdict::Reads => {
+            write::text(b"reads\n");
+            names::list(text);
+        }
         Verdict::Refused(number, place) => tell(
             text,
             number,

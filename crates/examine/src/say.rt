@@ -1,8 +1,9 @@
 // What is wrong, in a sentence.
+ghost use mathlib.Core.Path.{_≡_};
+ghost use Rattle.explain.specs.Spelling.{spellings-table};
 use crate::write;
-use explain::cause;
-use explain::cause::Limit;
 use explain::offer;
+use explain::quote;
 use explain::role;
 use explain::role::Named;
 use explain::role::Role;
@@ -10,6 +11,10 @@ use explain::spelling;
 use leaves::cell;
 use parts::byte;
 use spot::seen::Seen;
+use limits::TokenList;
+use terminals::Terminal;
+use token_tests::limit_at;
+use token_tests::sizes::Limit;
 use tokens::Read;
 
 // Refusal 1.
@@ -27,7 +32,7 @@ fn of_bytes(seen: Seen) {
 
 // Refusal 2.
 fn of_start(b: u8) {
-    if cause::is_quote(b) {
+    if quote::is_quote(b) {
         write::text(b"This quote is never closed.\n");
         return;
     }
@@ -35,22 +40,25 @@ fn of_start(b: u8) {
 }
 
 // A terminal as it is written.
-fn spelt(k: u8) {
+fn spelt(t: &[u8; 2424], k: u8)
+    requires { ⌜ now t ≡ spellings-table ⌝ }
+{
     write::text(b"  ");
-    let n = spelling::size(k);
+    let n = spelling::size(t, k);
     let mut j = 0usize;
     while j < n {
-        write::byte(spelling::letter(k, j));
+        write::byte(spelling::letter(t, k, j));
         j += 1;
     }
 }
 
 // Every terminal from one number up to another that is worth offering at the token i.
 fn between(kinds: &[u8], i: usize, from: u8, to: u8) {
+    let t = spelling::spellings();
     let mut k = from;
     while k < to {
         if offer::is_offered(kinds, i, k) {
-            spelt(k);
+            spelt(&t, k);
         }
         k += 1;
     }
@@ -58,8 +66,8 @@ fn between(kinds: &[u8], i: usize, from: u8, to: u8) {
 
 // The symbols, names, numbers and texts first, then the reserved words.
 fn offers(kinds: &[u8], i: usize) {
-    between(kinds, i, 72, 101);
-    between(kinds, i, 0, 72);
+    between(kinds, i, Terminal::DOUBLE_COLON, Terminal::COUNT);
+    between(kinds, i, 0, Terminal::DOUBLE_COLON);
     write::text(b"\n");
 }
 
@@ -91,9 +99,9 @@ fn token(text: &[u8], place: usize, size: usize) {
 // Refusal 10, at a token of the terminal k and of so many bytes.
 fn of_edition(text: &[u8], k: u8, place: usize, size: usize) {
     match k {
-        63 => write::text(b"A task that is no plan, enquiry or action"),
-        80 => write::text(b"A name with a colon"),
-        98 | 99 => write::text(b"A number with an exponent"),
+        Terminal::TASK => write::text(b"A task that is no plan, enquiry or action"),
+        Terminal::COLON => write::text(b"A name with a colon"),
+        Terminal::FLOAT => write::text(b"A number with an exponent"),
         _ => token(text, place, size),
     }
     write::text(b" is part of the language, but this edition does not run it.\n");
@@ -101,14 +109,14 @@ fn of_edition(text: &[u8], k: u8, place: usize, size: usize) {
 
 // Refusal 6, at a token.
 fn of_token(text: &[u8], k: u8, place: usize, size: usize) {
-    match cause::of_token(text, k, place, size) {
+    match limit_at(text, k, place, size) {
         Limit::Text => write::text(
             b"A name or text has at most 48 bytes, its quotes not counted.\n",
         ),
         Limit::Integer => write::text(b"Integers lie within plus or minus 2,000,000.\n"),
         Limit::Real => write::text(b"Reals lie within plus or minus 2,000,000.\n"),
         Limit::Decimals => write::text(b"A number has at most three digits after the point.\n"),
-        Limit::Expression => write::text(
+        Limit::Within => write::text(
             b"This expression is more than 24 deep, or one of its lists has more than 16 elements.\n",
         ),
     }
@@ -197,9 +205,9 @@ fn of_token_at(
 
 // A refusal of a text that has tokens.
 fn of_tokens_at(text: &[u8], number: u8, place: usize) {
-    let mut kinds = [0u8; 4096];
-    let mut places = [0usize; 4096];
-    let mut lengths = [0usize; 4096];
+    let mut kinds = [0u8; TokenList::LIMIT];
+    let mut places = [0usize; TokenList::LIMIT];
+    let mut lengths = [0usize; TokenList::LIMIT];
     match tokens::tokens(text, &mut kinds, &mut places, &mut lengths) {
         Read::Tokens(n) => {
             let i = offer::token_at(&places, n, place);

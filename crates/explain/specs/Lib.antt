@@ -1,4 +1,4 @@
 pub mod Offer
 pub mod Spelling
-pub mod Cause
 pub mod Quotes
+pub mod Role

@@ -3,10 +3,15 @@ use Prim.Native.Nat.{ℕ, _+_, _-_, _≤_, _<_}
 use native.Mathlib.Omega.{arith}
 use mathlib.Core.Path.{_≡_, refl, sym, ap, subst, _∙_}
 use mathlib.Core.Bool.{Bool, true, false}
+use mathlib.Core.Logic.{_⊎_, ⊎-elim}
 use mathlib.Core.List.{List, [], _∷_, _++_, append-nil, append-assoc}
 use lib.ListN.{length, take, drop, getD, set, take-append-drop}
 use lib.Seq.{take-length, take-suc, take-suc-set}
 use native.Mathlib.Numerals.{add-one}
+use Rattle.paper_expressions.specs.Laws.Tests.{contra}
+use Rattle.paper_tokens.specs.Tokens.{‘other-atom’, ‘yes-or-no’, ‘data-type’}
+use Rattle.paper_grammar.specs.Laws.Ll.{isIn}
+use Rattle.paper_guideline.specs.LeftOut.{left-out-words}
 use Rattle.grammar.specs.declared.Answer.{Answer}
 use Rattle.paper_grammar.specs.Nonterminals.{⟨process⟩}
 use Rattle.paper_grammar.specs.Sentence.{Sentence-of, Guideline, Begins, First-bad}
@@ -20,19 +25,47 @@ abbrev pub Tells : Type 0 → Bool → Type 0
 Tells P true = P
 Tells P false = ¬ P
 
-pub told : {P : Type 0} (r : Bool) → Tells P r → r ≡ true → P
-told true p e = p
-told false p e = absurd (let z : _≡_ {A = ℕ} 0 1 = cc in omega arith)
-
 -- the terminal k can stand behind the tokens w: some guideline has them first, and then k
 abbrev pub Behind : List ℕ → ℕ → Type 0
 Behind w k = Begins ⟨process⟩ (w ++ (k ∷ []))
+
+-- .. and not every name can
+pub record Alone (w : List ℕ) (k : ℕ) : Type 0 where
+  pub stands : Behind w k
+  pub no-name : ¬ Behind w ‘other-atom’
+
+-- k is worth offering behind w: this edition runs it, and a name of a certain spelling is not one of many
+pub record Offered (w : List ℕ) (k : ℕ) : Type 0 where
+  pub runs : isIn k left-out-words ≡ false
+  pub stands : Behind w k
+  pub single : (k ≡ ‘yes-or-no’) ⊎ (k ≡ ‘data-type’) → ¬ Behind w ‘other-atom’
 
 -- of the first n tokens r begin before the place, and the next, if there is one, does not
 pub record Before (places : List ℕ) (n place r : ℕ) : Type 0 where
   pub few : r ≤ n
   pub earlier : (i : ℕ) → i < r → getD places i 0 < place
   pub not-later : r < n → r < length places → place ≤ getD places r 0
+
+-- ---- what is offered
+
+pub not-alone : {w : List ℕ} {k : ℕ} → Tells (Behind w ‘other-atom’) true → Tells (Alone w k) false
+not-alone p a = a .no-name p
+
+pub alone : (w : List ℕ) (k : ℕ) (b r : Bool) → b ≡ false → Tells (Behind w ‘other-atom’) b → Tells (Behind w k) r → Tells (Alone w k) r
+alone w k true r e n p = contra (sym e)
+alone w k false true e n p = record { stands = p; no-name = n }
+alone w k false false e n p = λ a. p (a .stands)
+
+pub not-run : {w : List ℕ} {k : ℕ} → true ≡ isIn k left-out-words → Tells (Offered w k) false
+not-run e o = contra (sym (e ∙ o .runs))
+
+pub offered-alone : (w : List ℕ) (k : ℕ) (r : Bool) → false ≡ isIn k left-out-words → (k ≡ ‘yes-or-no’) ⊎ (k ≡ ‘data-type’) → Tells (Alone w k) r → Tells (Offered w k) r
+offered-alone w k true e s a = record { runs = sym e; stands = a .stands; single = λ _. a .no-name }
+offered-alone w k false e s a = λ o. a (record { stands = o .stands; no-name = o .single s })
+
+pub offered : (w : List ℕ) (k : ℕ) (r : Bool) → false ≡ isIn k left-out-words → ¬ (k ≡ ‘yes-or-no’) → ¬ (k ≡ ‘data-type’) → Tells (Behind w k) r → Tells (Offered w k) r
+offered w k true e y d b = record { runs = sym e; stands = b; single = λ s. absurd (⊎-elim y d s) }
+offered w k false e y d b = λ o. b (o .stands)
 
 -- ---- what a reader's answers say
 

@@ -1,4 +1,4 @@
--- Each terminal as a person writes it, the tables that hold the spellings and what is left out, and that an entry of a table is what it should be.
+-- Each terminal as a person writes it, the table that holds the spellings, and that an entry of the table is what it should be.
 use Prim.Native.Nat.{ℕ, zero, suc, _+_, _*_, _-_, _≤_, _<_}
 use Prim.Native.String.{String}
 use native.Mathlib.Omega.{arith}
@@ -14,7 +14,6 @@ use borrow.Author.Tests.{leb-true, ltb-true, ltb-false, ne-eqb}
 use Rattle.paper_expressions.specs.Laws.Tests.{and-l, and-r, two, every}
 use Rattle.paper_expressions.specs.Bytes.{bytes}
 use Rattle.paper_tokens.specs.Words.{reserved}
-use Rattle.paper_guideline.specs.LeftOut.{left-out-words}
 
 -- the reserved strings by their terminals, and words for the tokens of the other kinds
 unfoldable pub others : List String
@@ -23,15 +22,7 @@ others = "a name" ∷ "yes or no" ∷ "a data type" ∷ "an integer" ∷ "a floa
 unfoldable pub spellings : List (List ℕ)
 spellings = map (λ (e : ℕ × String). bytes (e .1)) reserved ++ map bytes others
 
--- whether k is one of the words and symbols that are left out
-abbrev pub among : ℕ → List ℕ → Bool
-among k [] = false
-among k (x ∷ l) = eqb k x || among k l
-
-abbrev pub left-out : ℕ → Bool
-left-out k = among k left-out-words
-
--- ---- as tables
+-- ---- as a table
 
 -- n bytes: those of w, and then blanks
 abbrev pub padded : ℕ → List ℕ → List ℕ
@@ -48,13 +39,6 @@ joined (l ∷ ls) = l ++ joined ls
 
 unfoldable pub spellings-table : List ℕ
 spellings-table = joined (map cell spellings)
-
-abbrev upto : ℕ → ℕ → List ℕ
-upto k zero = []
-upto k (suc n) = k ∷ upto (suc k) n
-
-unfoldable pub left-out-table : List ℕ
-left-out-table = map (λ (k : ℕ). cond (left-out k) 49 48) (upto 0 101)
 
 -- ---- an entry of a table
 
@@ -147,44 +131,3 @@ module _ (k w j z : ℕ) (e : w ≡ k) (f : z ≡ length (getD spellings k [])) 
 
   pub letter-is : getD spellings-table (w * 24 + 1 + j) 0 ≡ getD (getD spellings k []) j 0
   letter-is = ap (λ (x : ℕ). getD spellings-table (x * 24 + 1 + j) 0) e ∙ letter-at k j few (omega arith)
-
--- ---- what is left out
-
-upto-at : (k n i : ℕ) → i < n → getD (upto k n) i 0 ≡ k + i
-upto-at k zero i h = absurd (not-suc-le-zero h)
-upto-at k (suc n) zero h = omega arith
-upto-at k (suc n) (suc i) h = let z : suc k + i ≡ k + suc i = omega arith in upto-at (suc k) n i (le-of-suc-le-suc h) ∙ z
-
-upto-length : (k n : ℕ) → length (upto k n) ≡ n
-upto-length k zero = refl
-upto-length k (suc n) = ap suc (upto-length (suc k) n)
-
-flag : (b : Bool) → eqb (cond b 49 48) 49 ≡ b
-flag true = refl
-flag false = refl
-
-pub left-out-at : (k : ℕ) → k ≤ 100 → eqb (getD left-out-table k 0) 49 ≡ left-out k
-unfolding left-out-table
-left-out-at k h =
-    let g : ℕ → ℕ = λ k. cond (left-out k) 49 48 in
-    let a : getD (map g (upto 0 101)) k (g 0) ≡ g k = List·getD-map g (upto 0 101) k 0 ∙ ap g (upto-at 0 101 k (omega arith) ∙ (let z : 0 + k ≡ k = omega arith in z)) in
-    ap (λ (x : ℕ). eqb x 49) (default (map g (upto 0 101)) k (g 0) (omega arith) ∙ a) ∙ flag (left-out k)
-  where
-    default : (l : List ℕ) (i d : ℕ) → i < length l → getD l i 0 ≡ getD l i d
-    default [] i d h = absurd (not-suc-le-zero h)
-    default (x ∷ l) zero d h = refl
-    default (x ∷ l) (suc i) d h = default l i d (le-of-suc-le-suc h)
-
-pub left-out-is : (k w : ℕ) → k ≤ 100 → w ≡ k → eqb (getD left-out-table w 0) 49 ≡ left-out k
-left-out-is k w h e = ap (λ (x : ℕ). eqb (getD left-out-table x 0) 49) e ∙ left-out-at k h
-
--- no word that is left out is past the last terminal
-pub left-out-past : (k : ℕ) → 100 < k → false ≡ left-out k
-unfolding left-out-words
-left-out-past k h = sym (none left-out-words refl)
-  where
-    none : (l : List ℕ) → every (λ x. leb x 100) l ≡ true → among k l ≡ false
-    none [] e = refl
-    none (x ∷ l) e =
-        let a = leb-true x 100 (and-l (leb x 100) (every (λ x. leb x 100) l) e) in
-        rw (ne-eqb k x (λ q. omega arith)) (none l (and-r (leb x 100) (every (λ x. leb x 100) l) e))

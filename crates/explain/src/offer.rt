@@ -7,29 +7,18 @@ ghost use lib.ListN.{length, take};
 ghost use Rattle.paper_guideline.specs.Limits.{token-limit};
 ghost use Rattle.paper_grammar.specs.Nonterminals.{⟨process⟩};
 ghost use Rattle.paper_grammar.specs.Sentence.{Guideline, Begins};
-ghost use Rattle.explain.specs.Offer.{Tells, Behind, Before};
-use crate::spelling::is_left_out;
+ghost use Rattle.explain.specs.Offer.{Tells, Behind, Alone, Offered, Before};
 use grammar::Answer;
 use grammar::Start;
 use limits::TokenList;
-
-// The terminals of atoms.
-pub struct Atom;
-
-impl Atom {
-    pub const OTHER: u8 = 95;
-
-    pub const YES_OR_NO: u8 = 96;
-
-    pub const DATA_TYPE: u8 = 97;
-}
+use terminals::Terminal;
+use token_tests::edition::is_word;
 
 // Whether some guideline begins with these tokens.
 fn begins(kinds: &[u8]) -> bool
     ensures { λ r. ⌜ (length (now (kinds .entry)) ≤ token-limit → Tells (Begins ⟨process⟩ (now (kinds .entry))) r) ⌝ }
 {
-    let mut labels = [0u8; 1];
-    match grammar::read(kinds, Start::Process, &mut labels) {
+    match grammar::read(kinds, Start::Process) {
         Answer::Accepted => {
             return true;
         }
@@ -49,8 +38,7 @@ fn begins(kinds: &[u8]) -> bool
 fn ends(kinds: &[u8]) -> bool
     ensures { λ r. ⌜ (length (now (kinds .entry)) ≤ token-limit → Tells (Guideline (now (kinds .entry))) r) ⌝ }
 {
-    let mut labels = [0u8; 1];
-    match grammar::read(kinds, Start::Process, &mut labels) {
+    match grammar::read(kinds, Start::Process) {
         Answer::Accepted => {
             return true;
         }
@@ -100,7 +88,7 @@ pub fn may_stand(kinds: &[u8], i: usize, k: u8) -> bool
     if TokenList::LIMIT <= i {
         return false;
     }
-    let mut tried = [0u8; 4096];
+    let mut tried = [0u8; TokenList::LIMIT];
     copy(kinds, i, &mut tried);
     tried[i] = k;
     begin(&tried, i + 1)
@@ -135,9 +123,9 @@ pub fn token_at(places: &[usize], n: usize, place: usize) -> usize
 
 // .. an atom of a certain spelling, which is offered only where not every name can stand.
 fn stands_alone(kinds: &[u8], i: usize, k: u8) -> bool
-    ensures { λ r. ⌜ (i ≤ length (now (kinds .entry)) → i < token-limit → r ≡ true → Behind (take i (now (kinds .entry))) k) ⌝ }
+    ensures { λ r. ⌜ (i ≤ length (now (kinds .entry)) → i < token-limit → Tells (Alone (take i (now (kinds .entry))) k) r) ⌝ }
 {
-    if may_stand(kinds, i, Atom::OTHER) {
+    if may_stand(kinds, i, Terminal::OTHER_ATOM) {
         return false;
     }
     may_stand(kinds, i, k)
@@ -145,15 +133,15 @@ fn stands_alone(kinds: &[u8], i: usize, k: u8) -> bool
 
 // Whether the terminal k is worth offering at the token i: it can stand there, this edition runs it, and it is not one name of many.
 pub fn is_offered(kinds: &[u8], i: usize, k: u8) -> bool
-    ensures { λ r. ⌜ (i ≤ length (now (kinds .entry)) → i < token-limit → r ≡ true → Behind (take i (now (kinds .entry))) k) ⌝ }
+    ensures { λ r. ⌜ (i ≤ length (now (kinds .entry)) → i < token-limit → Tells (Offered (take i (now (kinds .entry))) k) r) ⌝ }
 {
-    if is_left_out(k) {
+    if is_word(k) {
         return false;
     }
-    if k == Atom::YES_OR_NO {
+    if k == Terminal::YES_OR_NO {
         return stands_alone(kinds, i, k);
     }
-    if k == Atom::DATA_TYPE {
+    if k == Terminal::DATA_TYPE {
         return stands_alone(kinds, i, k);
     }
     may_stand(kinds, i, k)

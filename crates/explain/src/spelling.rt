@@ -1,8 +1,8 @@
-// Each terminal as a person writes it, and which of them this edition does not run.
+// Each terminal as a person writes it.
 ghost use mathlib.Core.Path.{_≡_};
 ghost use mathlib.Core.List.{[]};
 ghost use lib.ListN.{length, getD};
-ghost use Rattle.explain.specs.Spelling.{spellings, left-out};
+ghost use Rattle.explain.specs.Spelling.{spellings as spellingsOf, spellings-table};
 
 // Twenty-four bytes for each of the 101 terminals: how long its spelling is, the spelling, and blanks.
 const SPELLINGS: [u8; 2424] = *b"\
@@ -33,42 +33,37 @@ const SPELLINGS: [u8; 2424] = *b"\
 \x09yes or no              \x0ba data type            \x0aan integer             \x07a float                \
 \x17a text in double quotes";
 
-// For each terminal whether it names something that is read but not run.
-const LEFT_OUT: [u8; 101] =
-    *b"10000000100000011100111010001010001010011100100110000110100000010001010000000000101100000000000000000";
-
 fn wide(b: u8) -> usize
     ensures { λ r. ⌜ r ≡ b ⌝ }
 {
     b as usize
 }
 
+// The table, which is made once for all that is spelt.
+pub fn spellings() -> [u8; 2424]
+    ensures { λ r. ⌜ r ≡ spellings-table ⌝ }
+{
+    SPELLINGS
+}
+
 // How long the spelling of the terminal k is.
-pub fn size(k: u8) -> usize
-    ensures { λ r. ⌜ r ≡ length (getD spellings k []) ⌝ }
+pub fn size(t: &[u8; 2424], k: u8) -> usize
+    requires { ⌜ now t ≡ spellings-table ⌝ }
+    ensures { λ r. ⌜ r ≡ length (getD spellingsOf k []) ⌝ }
 {
     if 100 < k {
         return 0;
     }
-    wide(SPELLINGS[wide(k) * 24])
+    wide(t[wide(k) * 24])
 }
 
 // The byte j of the spelling of the terminal k.
-pub fn letter(k: u8, j: usize) -> u8
-    ensures { λ r. ⌜ r ≡ getD (getD spellings k []) j 0 ⌝ }
+pub fn letter(t: &[u8; 2424], k: u8, j: usize) -> u8
+    requires { ⌜ now t ≡ spellings-table ⌝ }
+    ensures { λ r. ⌜ r ≡ getD (getD spellingsOf k []) j 0 ⌝ }
 {
-    if size(k) <= j {
+    if size(t, k) <= j {
         return 0;
     }
-    SPELLINGS[wide(k) * 24 + 1 + j]
-}
-
-// Whether the terminal k names something that this edition reads but does not run.
-pub fn is_left_out(k: u8) -> bool
-    ensures { λ r. ⌜ r ≡ left-out k ⌝ }
-{
-    if 100 < k {
-        return false;
-    }
-    LEFT_OUT[wide(k)] == 49
+    t[wide(k) * 24 + 1 + j]
 }

@@ -12,7 +12,7 @@ use Rattle.paper_expressions.specs.Laws.Tests.{two, contra}
 use Rattle.paper_expressions.specs.Laws.Functors.{functorF}
 use Rattle.paper_expressions.specs.Expressions.{Expr, Exprs, Listing, Apply, ε, _▸_}
 use Rattle.paper_expressions.specs.Laws.Parentheses.{bare, bares}
-use Rattle.paper_guideline.specs.Limits.{text-limit, bracket-limit, part-limit, larger, depth, count, deepest, longest-list}
+use Rattle.paper_guideline.specs.Limits.{guideline-limit, bracket-limit, part-limit, larger, depth, count, deepest, longest-list}
 use Rattle.paper_tokens.specs.Lexical.{Token, atom, part}
 use Rattle.paper_tokens.specs.Terminals.{Terminal, name}
 use Rattle.paper_tokens.specs.Terminals
@@ -122,14 +122,14 @@ module _ {c : Source} {p at n : ℕ} {t : Token} (h : Here c p t) where
   pub token-fits : at ≡ getD (c .places) p 0 → n ≡ getD (c .lengths) p 0 → at + n ≤ length (c .text)
   token-fits a b = let w = h .within in omega arith
 
-  token-read : {k : ℕ} → ¬ TokenBreach t → length (c .text) ≤ text-limit → at ≡ getD (c .places) p 0 → n ≡ getD (c .lengths) p 0 → k ≡ getD (c .kinds) p 0 → Read (c .text) k at n t
+  token-read : {k : ℕ} → ¬ TokenBreach t → length (c .text) ≤ guideline-limit → at ≡ getD (c .places) p 0 → n ≡ getD (c .lengths) p 0 → k ≡ getD (c .kinds) p 0 → Read (c .text) k at n t
   token-read b s ea en ek = record { terminal = subst (Terminal t) (sym ek) (h .terminal); bytes = h .bytes ∙ ap (λ (i : ℕ). part (c .text) i (getD (c .lengths) p 0)) (sym ea) ∙ ap (λ (i : ℕ). part (c .text) at i) (sym en); clean = b; short = s }
 
-  pub said-leaf : {k : ℕ} {e : Expr} (w : Word) → ¬ TokenBreach t → length (c .text) ≤ text-limit → Leaf t e → at ≡ getD (c .places) p 0 → n ≡ getD (c .lengths) p 0 → k ≡ getD (c .kinds) p 0
+  pub said-leaf : {k : ℕ} {e : Expr} (w : Word) → ¬ TokenBreach t → length (c .text) ≤ guideline-limit → Leaf t e → at ≡ getD (c .places) p 0 → n ≡ getD (c .lengths) p 0 → k ≡ getD (c .kinds) p 0
       → SaysLeaf (c .text) k at n w → Says (c .text) e w
   said-leaf {e = e} w b s l ea en ek f = f t e (token-read b s ea en ek) l
 
-  pub said-head : (w : Word) → ¬ TokenBreach t → length (c .text) ≤ text-limit → t .rule ≡ atom → at ≡ getD (c .places) p 0 → n ≡ getD (c .lengths) p 0
+  pub said-head : (w : Word) → ¬ TokenBreach t → length (c .text) ≤ guideline-limit → t .rule ≡ atom → at ≡ getD (c .places) p 0 → n ≡ getD (c .lengths) p 0
       → SaysHead (c .text) at n w → SaysFunctor (c .text) (name t) w
   said-head w b s l ea en f = f t (getD (c .kinds) p 0) (token-read b s ea en refl) l
 

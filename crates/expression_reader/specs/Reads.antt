@@ -8,7 +8,7 @@ use native.Mathlib.Omega.{arith}
 use lib.ListN.{length}
 use Rattle.paper_expressions.specs.Expressions.{Expr, Exprs, Atom, IntegerLit, FloatLit, StringLit, Paren, Listing, Apply, ε, _▸_}
 use Rattle.paper_expressions.specs.Laws.Parentheses.{bare, bares}
-use Rattle.paper_guideline.specs.Limits.{text-limit, bracket-limit, part-limit, parts, parts-of, depth, deepest, longest-list}
+use Rattle.paper_guideline.specs.Limits.{guideline-limit, bracket-limit, part-limit, parts, parts-of, depth, deepest, longest-list}
 use Rattle.paper_tokens.specs.Lexical.{Token}
 use Rattle.paper_guideline.specs.Tree.{Where, Tree}
 use Rattle.paper_guideline.specs.Laws.TreeLaws.{Ends}
@@ -28,7 +28,7 @@ pub record Whole (c : Source) (x y : List ℕ) (u : ℕ) (r : List Token) (e : E
   pub used : m .used ≡ u + parts e
   pub depth : m .depth ≡ depth e
   pub longest : m .longest ≡ longest-list e
-  pub held : Clean c r → length (c .text) ≤ text-limit → u + parts e ≤ part-limit → (u + parts e) * 4 ≤ length x → Holds (table y (c .text)) u (bare e)
+  pub held : Clean c r → length (c .text) ≤ guideline-limit → u + parts e ≤ part-limit → (u + parts e) * 4 ≤ length x → Holds (table y (c .text)) u (bare e)
 
 pub record Reads (a : Where) (c : Source) (x y : List ℕ) (p u : ℕ) (m : Built) : Type 0 where
   pub onward : m .ok ≡ true → Went x y p u m

@@ -6,7 +6,7 @@ use mathlib.Core.List.{List, _∷_}
 use lib.ListN.{length}
 use Rattle.paper_expressions.specs.Expressions.{Expr, Exprs, ε}
 use Rattle.paper_expressions.specs.Laws.Parentheses.{bares}
-use Rattle.paper_guideline.specs.Limits.{text-limit, larger, depth, count, deepest, longest-lists}
+use Rattle.paper_guideline.specs.Limits.{guideline-limit, larger, depth, count, deepest, longest-lists}
 use Rattle.paper_tokens.specs.Lexical.{Token, atom}
 use Rattle.paper_tokens.specs.Terminals.{Terminal, name}
 use Rattle.paper_guideline.specs.Refusals.{TokenBreach, TooManyOpen}
@@ -21,11 +21,11 @@ use Rattle.expression_steps.specs.Made.{Standing, Fit, Done, Onward, Group, Hea
 
 -- the part that the token at p is by itself
 abbrev pub SaysAt : Source → ℕ → Word → Type 0
-SaysAt c p r = (t : Token) (e : Expr) → Here c p t → ¬ TokenBreach t → length (c .text) ≤ text-limit → Leaf t e → Says (c .text) e r
+SaysAt c p r = (t : Token) (e : Expr) → Here c p t → ¬ TokenBreach t → length (c .text) ≤ guideline-limit → Leaf t e → Says (c .text) e r
 
 abbrev pub SaysHeadAt : List ℕ → List ℕ → List ℕ → ℕ → Word → Type 0
 SaysHeadAt text places lengths p r =
-    (kinds : List ℕ) (t : Token) → Here (source text kinds places lengths) p t → ¬ TokenBreach t → length text ≤ text-limit → t .rule ≡ atom → SaysFunctor text (name t) r
+    (kinds : List ℕ) (t : Token) → Here (source text kinds places lengths) p t → ¬ TokenBreach t → length text ≤ guideline-limit → t .rule ≡ atom → SaysFunctor text (name t) r
 
 pub record ReadsSingle (c : Source) (x y : List ℕ) (p u : ℕ) (m : Built) : Type 0 where
   pub onward : Onward x y p u m

@@ -8,7 +8,7 @@ use lib.ListN.{length, getD}
 use Rattle.paper_expressions.specs.Operators.{Op, negate}
 use Rattle.paper_expressions.specs.Expressions.{Expr, Exprs, Listing, Apply, ε, _▸_}
 use Rattle.paper_expressions.specs.Laws.Parentheses.{bare}
-use Rattle.paper_guideline.specs.Limits.{text-limit, bracket-limit, part-limit, larger, depth, longest-list}
+use Rattle.paper_guideline.specs.Limits.{guideline-limit, bracket-limit, part-limit, larger, depth, longest-list}
 use Rattle.paper_tokens.specs.Lexical.{Token}
 use Rattle.paper_tokens.specs.Terminals.{Terminal}
 use Rattle.paper_guideline.specs.Tree.{infixes, Where, MayStand, Tree, Trees}
@@ -32,7 +32,7 @@ pub record Standing (c : Source) (b d p : ℕ) (w : List Token) : Type 0 where
 -- no token before r is past a limit of its own
 pub record Tidy (c : Source) (r : List Token) : Type 0 where
   pub clean : Clean c r
-  pub short : length (c .text) ≤ text-limit
+  pub short : length (c .text) ≤ guideline-limit
 
 -- that, and there is room for the rows before v
 pub record Sound (c : Source) (x : List ℕ) (v : ℕ) (r : List Token) : Type 0 where

@@ -15,7 +15,7 @@ use Rattle.paper_expressions.specs.Operators.{Op, arithmetic, divide, compare, 
 use Rattle.paper_expressions.specs.Operators.{Name, _means_, Functor, of-section-11, of-no-section}
 use Rattle.paper_expressions.specs.Expressions.{Expr}
 use Rattle.paper_expressions.specs.Laws.Parentheses.{bare, bares}
-use Rattle.paper_guideline.specs.Limits.{text-limit}
+use Rattle.paper_guideline.specs.Limits.{guideline-limit}
 use Rattle.paper_tokens.specs.Lexical.{Token, inner, Tokens, at-end, skip, take-token}
 use Rattle.paper_tokens.specs.Terminals as Terminals
 use Rattle.paper_guideline.specs.Tree
@@ -149,5 +149,5 @@ rows-short (turn {rs = rs} {rows = rows} e h k) =
 
 -- ---- the whole
 
-pub room-enough : {text b : List ℕ} {ts : List Token} {rows : List Row} → Tokens text 0 ts → Flat outside ts rows → length text ≤ text-limit → text-limit ≤ length b → Fits b (length (text-of rows))
+pub room-enough : {text b : List ℕ} {ts : List Token} {rows : List Row} → Tokens text 0 ts → Flat outside ts rows → length text ≤ guideline-limit → guideline-limit ≤ length b → Fits b (length (text-of rows))
 room-enough t f h k = let x = tokens-fit t in let y = rows-short f in record { bytes = omega arith; places = omega arith }

@@ -8,7 +8,7 @@ use mathlib.Core.List.{List, [], _∷_}
 use lib.Dec.{eqb}
 use lib.ListN.{length}
 use Rattle.paper_expressions.specs.Limits.{list-limit}
-use Rattle.paper_guideline.specs.Limits.{text-limit, token-limit, part-limit, depth-limit}
+use Rattle.paper_guideline.specs.Limits.{guideline-limit, token-limit, part-limit, depth-limit}
 use Rattle.paper_tokens.specs.Lexical.{Token, atom}
 use Rattle.paper_guideline.specs.Structure.{Name, Outermost}
 use Rattle.parts.specs.Part.{table}
@@ -68,7 +68,7 @@ NameAt c some-name j p (some n) = (some-name ≡ true) × Named c j n × (p ≡ 
 -- no token passes a limit, and the text none
 pub record Sound (c : Source) : Type 0 where
   pub clean : Clean c []
-  pub short : length (c .text) ≤ text-limit
+  pub short : length (c .text) ≤ guideline-limit
 
 -- the expression, if there is one, is past a limit of its own, and starts at s
 pub record Sized (e : Option Outermost) (large : Bool) (s : ℕ) : Type 0 where
@@ -80,12 +80,12 @@ pub record Told (c : Source) (k l : List ℕ) (u : ℕ) (t : Passed) (x : Row) :
   pub row : t .row ≡ true
   pub kind : t .kind ≡ kind-of x
   pub word : t .word ≡ word-of x
-  pub low : t .word ≤ text-limit
+  pub low : t .word ≤ guideline-limit
   pub name : NameAt c (t .named) (t .name) (t .place) (name-of x)
   pub first : t .first ≡ first-of u (expression-of x)
   pub end : t .end ≡ end-of u (expression-of x)
   pub start : t .start ≡ start-of (expression-of x)
-  pub near : t .start ≤ text-limit
+  pub near : t .start ≤ guideline-limit
   pub sized : Sized (expression-of x) (t .large) (t .start)
   pub held : Sound c → u + size-in (expression-of x) ≤ part-limit → (u + size-in (expression-of x)) * 4 ≤ length k → HeldIn (table l (c .text)) u (expression-of x)
   pub flag : t .flag ≡ flag-of x
@@ -108,7 +108,7 @@ pub record Fair (c : Source) (p : ℕ) (w : List Token) : Type 0 where
   pub stand : Stand c p w
   pub fine : Fine w
   pub few : length (c .kinds) ≤ token-limit
-  pub short : length (c .text) ≤ text-limit
+  pub short : length (c .text) ≤ guideline-limit
 
 -- the part behind those in use then
 abbrev pub parts-then : ℕ → Passed → ℕ

@@ -13,7 +13,7 @@ use Rattle.paper_expressions.specs.Laws.Tests.{two, contra}
 use Rattle.paper_expressions.specs.Laws.Parentheses.{bare}
 use Rattle.paper_expressions.specs.Expressions.{Expr}
 use Rattle.paper_expressions.specs.Limits.{list-limit}
-use Rattle.paper_guideline.specs.Limits.{text-limit, token-limit, part-limit, depth-limit, depth, longest-list}
+use Rattle.paper_guideline.specs.Limits.{guideline-limit, token-limit, part-limit, depth-limit, depth, longest-list}
 use Rattle.paper_tokens.specs.Tokens
 use Tokens.{“=”, “plan”, “action”, “enquiry”, “data”, “caption”, “description”, “precondition”, “wait-condition”, “postcondition”, “trigger”, “terminate”, “component”, “source”, “schedule-constraint”, “terminal”, “mandatory”}
 use Rattle.paper_grammar.specs.Laws.Ll.{isIn}
@@ -102,11 +102,11 @@ spelt : {c : Source} {j : ℕ} {n : Token} {w : List Token} → Stand c j (n ∷
 spelt s = let h = stand-here s in record { bytes = h .bytes; within = h .within }
 
 -- a place is within the text
-low-place : {c : Source} {p : ℕ} {t : Token} {w : List Token} (q : ℕ) → Fair c p (t ∷ w) → q ≡ getD (c .places) p 0 → q ≤ text-limit
+low-place : {c : Source} {p : ℕ} {t : Token} {w : List Token} (q : ℕ) → Fair c p (t ∷ w) → q ≡ getD (c .places) p 0 → q ≤ guideline-limit
 low-place q f e = let h = stand-here (f .stand) .within in let l = f .short in omega arith
 
 -- so is where an expression starts
-there-low : {c : Source} {p : ℕ} {t : Token} {w : List Token} (q : ℕ) → Stand c p (t ∷ w) → length (c .text) ≤ text-limit → q ≡ getD (c .places) p 0 → q ≤ text-limit
+there-low : {c : Source} {p : ℕ} {t : Token} {w : List Token} (q : ℕ) → Stand c p (t ∷ w) → length (c .text) ≤ guideline-limit → q ≡ getD (c .places) p 0 → q ≤ guideline-limit
 there-low q s l e = let h = stand-here s .within in omega arith
 
 word-at : {c : Source} {p : ℕ} {t : Token} {w : List Token} {q : ℕ} → Stand c p (t ∷ w) → q ≡ getD (c .places) p 0 → q ≡ t .place

@@ -6,7 +6,7 @@ use mathlib.Core.Option.{Option, none, some}
 use mathlib.Core.List.{List, [], _∷_}
 use lib.Dec.{eqb, ltb}
 use lib.ListN.{length, getD}
-use Rattle.paper_guideline.specs.Limits.{text-limit, token-limit, part-limit}
+use Rattle.paper_guideline.specs.Limits.{guideline-limit, token-limit, part-limit}
 use Rattle.paper_tokens.specs.Tokens.{“plan”, “action”, “enquiry”, “data”, “=”, “source”}
 use Rattle.paper_tokens.specs.Lexical.{Token}
 use Rattle.paper_guideline.specs.Structure.{Name, Outermost, TopLevel, Structure}
@@ -66,7 +66,7 @@ pub record Given (c : Source) (ts : List Token) (g : List TopLevel) : Type 0 whe
   pub structure : Structure ts g
   pub brackets : (q : ℕ) → ¬ TooManyOpen 0 ts q
   pub few : length ts ≤ token-limit
-  pub short : length (c .text) ≤ text-limit
+  pub short : length (c .text) ≤ guideline-limit
 
 pub record Walked (c : Source) (x y k l b d : List ℕ) (rows : List Row) (w : Totals) : Type 0 where
   pub ok : w .ok ≡ true

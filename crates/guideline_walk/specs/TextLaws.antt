@@ -12,7 +12,7 @@ use Rattle.paper_expressions.specs.Laws.Tests.{contra}
 use Rattle.paper_expressions.specs.Limits as Values
 use Rattle.paper_expressions.specs.Laws.Parentheses.{bare}
 use Rattle.paper_tokens.specs.Terminals as Terminals
-use Rattle.paper_guideline.specs.Limits.{text-limit, part-limit}
+use Rattle.paper_guideline.specs.Limits.{guideline-limit, part-limit}
 use Rattle.paper_guideline.specs.Refusals.{long-name}
 use Rattle.paper_guideline.specs.Structure.{Name, Outermost}
 use Rattle.parts.specs.Texts.{cells, handle}
@@ -140,7 +140,7 @@ eight-put x n t h a b d e f ea eb ed ee ef l = record {
 }
 
 -- where a name stands
-place-is : (c : Source) (b : Bool) (j p : ℕ) (n : Option Name) → length (c .text) ≤ text-limit → NameAt c b j p n → (p ≡ name-place n) × (p ≤ text-limit)
+place-is : (c : Source) (b : Bool) (j p : ℕ) (n : Option Name) → length (c .text) ≤ guideline-limit → NameAt c b j p n → (p ≡ name-place n) × (p ≤ guideline-limit)
 place-is c b j p none l h = let e = h .1 in (e, omega arith)
 place-is c b j p (some n) l h =
     let w = h .1 .here .within in

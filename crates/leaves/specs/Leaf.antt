@@ -18,7 +18,7 @@ use Rattle.paper_tokens.specs.Lexical.{Token, atom, integer, float, double-quot
 use Rattle.paper_tokens.specs.Terminals.{Terminal, name}
 use Rattle.paper_tokens.specs.Terminals
 use Rattle.paper_tokens.specs.Literals.{whole, thousandths}
-use Rattle.paper_guideline.specs.Limits.{text-limit}
+use Rattle.paper_guideline.specs.Limits.{guideline-limit}
 use Rattle.paper_guideline.specs.Refusals.{TokenBreach, long-name, long-text, large-integer, large-real}
 use Rattle.paper_tokens.specs.Laws.TerminalLaws.{terminal-is, one-terminal, atom-kind}
 use Rattle.parts.specs.Codes.{code, kind}
@@ -46,7 +46,7 @@ pub record Read (text : List ℕ) (k at n : ℕ) (t : Token) : Type 0 where
   pub terminal : Terminal t k
   pub bytes : t .bytes ≡ part text at n
   pub clean : ¬ TokenBreach t
-  pub short : length text ≤ text-limit
+  pub short : length text ≤ guideline-limit
 
 abbrev pub SaysLeaf : List ℕ → ℕ → ℕ → ℕ → Word → Type 0
 SaysLeaf text k at n r = (t : Token) (e : Expr) → Read text k at n t → Leaf t e → Says text e r

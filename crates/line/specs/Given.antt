@@ -20,7 +20,7 @@ use Rattle.typer.specs.Typed.{Typed, typed-written}
 use Rattle.values.specs.declared.value.Value.{Value}
 use Rattle.values.specs.Meaning.{meaningV}
 use Rattle.apply.specs.Tasks.{Tasks}
-use Rattle.evaluator.specs.Columns.{columns, AllSpelt, Setting}
+use Rattle.evaluator.specs.Columns.{columns, Setting}
 use Rattle.evaluator.specs.Published.{IsValue, Published, written}
 
 -- ---- the view
@@ -41,14 +41,13 @@ items b e = record { number = sym e; named = λ h. elim h [ ]; typed = λ h. eli
 tasks : (b : List ℕ) {names states : List ℕ} → length names ≡ 0 → Tasks b names states no-items
 tasks b e = record { number = sym e; named = λ h. elim h [ ]; stated = λ h. elim h [ ] }
 
-setting : {t : Table} {names tags cells ts states : List ℕ} → length names ≡ 0 → length ts ≡ 0 → AllSpelt t
+setting : {t : Table} {names tags cells ts states : List ℕ} → length names ≡ 0 → length ts ≡ 0
     → Setting t (columns names tags cells ts states) no-items
-setting {t} e f s = record {
+setting {t} e f = record {
   apart = apart;
   held = held;
   items = record { types = []; items = items (t .bytes) e; values = λ h. elim h [ ] };
   tasks = tasks (t .bytes) f;
-  texts = s;
 }
 
 -- ---- without its parentheses a tree is as modest as with them
@@ -77,10 +76,10 @@ module _ {t : Table} {names : List ℕ} {q d : ℕ} (e : Expr) (none : length na
   pub type-is : {types : List ℕ} {r : ℕ} → Typed t names types 0 q d r → Outcome (HasType no-items 0 e) r
   type-is f = typed-written e (f no-items (bare e) apart (items (t .bytes) none) ends deep)
 
-  pub value-is : {tags cells ts states : List ℕ} {ty : Ty} (v : Value) → length ts ≡ 0 → AllSpelt t → Modest e → HasType no-items 0 e ty
+  pub value-is : {tags cells ts states : List ℕ} {ty : Ty} (v : Value) → length ts ≡ 0 → Modest e → HasType no-items 0 e ty
       → Published t (columns names tags cells ts states) 0 q d v → IsValue no-items 0 e ty (meaningV (t .bytes) v)
-  value-is {ty} v no-tasks texts m h f =
-      written e sound (f no-items (bare e) ty sound (setting none no-tasks texts) ends deep (bare-modest m) (type-to-bare no-items 0 h))
+  value-is {ty} v no-tasks m h f =
+      written e sound (f no-items (bare e) ty sound (setting none no-tasks) ends deep (bare-modest m) (type-to-bare no-items 0 h))
 
 -- the value is within the limits
 pub value-limited : {e : Expr} {ty : Ty} {v : paper.Value} → IsValue no-items 0 e ty v → Modest e → Limited v

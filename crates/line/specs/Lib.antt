@@ -3,12 +3,9 @@ pub mod Steps
 pub mod Stages
 pub mod Columns
 pub mod Modest
-pub mod Texts
 pub mod Given
 pub mod Tests
 pub mod Table
 pub mod Writing
 pub mod Valued
 pub mod Whole
-pub mod Twin
-pub mod Worked

@@ -5,7 +5,7 @@ use mathlib.Core.List.{List}
 use lib.ListN.{length}
 use Rattle.paper_guideline.specs.Line.{LineAnswer, LineAnswers, answer-written}
 use Rattle.tokens.specs.Reply.{filled, blank}
-use Rattle.written.specs.Longest.{answer-limit}
+use Rattle.written.specs.Limit.{answer-limit}
 
 -- n cells hold the answer of the line, of r bytes, and zeros behind it
 pub record Answered (line : List ℕ) (n : ℕ) (cells : List ℕ) (r : ℕ) : Type 0 where

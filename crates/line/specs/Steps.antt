@@ -17,20 +17,18 @@ use Rattle.tokens.specs.Reply.{blank}
 use Rattle.parts.specs.Part.{Table, size, Ends, Within}
 use Rattle.resolution.specs.Letters.{letter}
 use Rattle.leaves.specs.Source.{source, Stand, Clean}
-use Rattle.evaluator.specs.Columns.{AllSpelt}
-use Rattle.written.specs.Longest.{answer-limit}
+use Rattle.written.specs.Limit.{answer-limit}
 use Rattle.line.specs.declared.tests.Verdict.{Verdict}
 use Rattle.line.specs.declared.tests.Verdict.the-variants.{Fine, Refused}
+use Rattle.line.specs.declared.tests.Fit.{Fit}
+use Rattle.line.specs.declared.tests.Fit.the-variants as Fit
+use Fit.{Within}
 use Rattle.line.specs.Reply.{Answered}
 
 -- cells that are blank, and enough for every answer
 pub record Blank (out : List ℕ) : Type 0 where
   pub room : answer-limit ≤ length out
   pub all-zero : out ≡ blank (length out)
-
--- bytes for the texts of an expression: fewer than 64 for each part
-abbrev pub text-room : ℕ
-text-room = 65536
 
 -- no stage whose turn comes before n is broken
 abbrev pub Before : List ℕ → ℕ → Type 0
@@ -70,15 +68,14 @@ pub record Held (line : List ℕ) (t : Table) (end : ℕ) : Type 0 where
   pub ends : Ends t end (bare expression)
   pub deep : Within depth-limit (bare expression)
   pub modest : Modest expression
-  pub texts : AllSpelt t
 
 abbrev pub Parses : List ℕ → List ℕ → List ℕ → List ℕ → Verdict → Type 0
 Parses line kinds places lengths Fine = Parsed line kinds places lengths
 Parses line kinds places lengths (Refused n) = LineAnswers line (refused n)
 
-abbrev pub Fits : List ℕ → List ℕ → List ℕ → List ℕ → Verdict → Type 0
-Fits line kinds places lengths Fine = Fitting line kinds places lengths
-Fits line kinds places lengths (Refused n) = LineAnswers line (refused n)
+abbrev pub Fits : List ℕ → List ℕ → Fit → Type 0
+Fits line cells (Within end) = Held line (table cells line) end
+Fits line cells (Fit.Refused n) = LineAnswers line (refused n)
 
 -- whatever line the parts before `end` are of: its answer is in the n cells
 abbrev pub Comes : Table → ℕ → ℕ → List ℕ → ℕ → Type 0

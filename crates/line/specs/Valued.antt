@@ -47,5 +47,5 @@ module _ {line : List ℕ} {t : Table} {names : List ℕ} {end x : ℕ} (h : Hel
     pub with-value : {tags items ts states : List ℕ} (v : Value) {ty : Ty} → length ts ≡ 0 → Published t (columns names tags items ts states) 0 end depth-limit v
         → OfType x out cells 0 r (answer-of (meaningV (t .bytes) v)) → x ≡ letter ty → HasType no-items 0 (h .expression) ty → Answered line (length out) cells r
     with-value v {ty} e p w q k =
-        let i = value-is (h .expression) empty (h .ends) (h .deep) v e (h .texts) (h .modest) k p in
+        let i = value-is (h .expression) empty (h .ends) (h .deep) v e (h .modest) k p in
         answers o (value-limited i (h .modest)) (given (h .tree .its) (h .tree .tree) (h .before) k (i .fits)) (w .wrote ty q)

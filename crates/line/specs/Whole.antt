@@ -12,7 +12,7 @@ use Rattle.paper_guideline.specs.Laws.LineLaws.{one-line-answer}
 use Rattle.tokens.specs.declared.Read.{Read}
 use Rattle.tokens.specs.declared.Read.the-variants.{Tokens, Refused, Short}
 use Rattle.tokens.specs.Reply.{filled, blank, Reads}
-use Rattle.written.specs.Longest.{answer-limit}
+use Rattle.written.specs.Limit.{answer-limit}
 use Rattle.line.specs.Reply.{Answered, Reply}
 use Rattle.line.specs.Steps.{Blank, Lexed}
 use Rattle.line.specs.Stages.{early-refusal}

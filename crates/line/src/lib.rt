@@ -3,16 +3,16 @@
 mod tests;
 mod valued;
 
+use limits::Expressions;
 use limits::TokenList;
+use tests::Fit;
 use tests::Verdict;
 use tokens::Read;
+use written::Answer;
 ghost use mathlib.Core.Path.{_≡_};
 ghost use lib.ListN.{length, replicate};
 ghost use Rattle.line.specs.Reply.{Reply, Answered};
 ghost use Rattle.line.specs.Steps.{Blank, Lexed};
-
-// No answer has more bytes.
-const ANSWER: usize = 1_024;
 
 // All zero.
 fn clear(out: &mut [u8])
@@ -37,9 +37,10 @@ fn tested(line: &[u8], kinds: &[u8], places: &[usize], lengths: &[usize], out: &
         }
         Verdict::Fine => {}
     }
-    match tests::fit(line, kinds, places, lengths) {
-        Verdict::Refused(n) => written::refused(n, out, 0),
-        Verdict::Fine => valued::evaluate(line, kinds, places, lengths, out),
+    let mut cells = [0u32; Expressions::CELLS];
+    match tests::fit(line, kinds, places, lengths, &mut cells) {
+        Fit::Refused(n) => written::refused(n, out, 0),
+        Fit::Within(end) => valued::value(&cells, line, end, out),
     }
 }
 
@@ -49,7 +50,7 @@ pub fn answer(line: &[u8], out: &mut [u8]) -> usize
     ensures { λ r. ⌜ Reply (now (line .entry)) (length (now (out .entry))) (now (out .exit)) r ⌝ }
 {
     clear(out);
-    if out.len() < ANSWER {
+    if out.len() < Answer::LIMIT {
         return 0;
     }
     let mut kinds = [0u8; TokenList::LIMIT];

@@ -5,12 +5,12 @@ use mathlib.Core.Bool.{Bool, true, false, cond}
 use mathlib.Core.List.{List, [], _∷_, _++_}
 use lib.Dec.{eqb}
 use lib.ListN.{length, take, drop}
-use Rattle.paper_guideline.specs.Limits.{text-limit}
+use Rattle.paper_guideline.specs.Limits.{guideline-limit}
 use Rattle.lines.specs.declared.Taken.{Taken}
 
 -- bytes kept of a line: one more than it may have, so that a longer line is still seen to be too long
 abbrev pub kept-limit : ℕ
-kept-limit = text-limit + 1
+kept-limit = guideline-limit + 1
 
 -- begun are the bytes since the last newline: as many of them as are kept are the first n of the lent bytes
 pub record Begun (begun kept : List ℕ) (n : ℕ) : Type 0 where

@@ -8,7 +8,7 @@ use mathlib.Core.List.{List, [], _∷_, _++_, append-assoc, append-nil}
 use lib.Dec.{eqb}
 use lib.ListN.{length, take, drop, length-take, length-drop, drop-of-length-le}
 use lib.Seq.{take-all, drop-drop, drop-length}
-use Rattle.paper_guideline.specs.Limits.{text-limit}
+use Rattle.paper_guideline.specs.Limits.{guideline-limit}
 use Rattle.paper_guideline.specs.Refusals.{text-stage, number}
 use Rattle.paper_guideline.specs.Laws.RefusalLaws.{le-or-gt}
 use Rattle.paper_guideline.specs.Line.{line-long, LineAnswer, refused, LineAnswers, line-refused, digits-of, answer-written, lines-from, Writes, no-more-lines, next-line, Output, output}
@@ -19,7 +19,7 @@ use Rattle.lines.specs.declared.Taken.{Taken}
 
 -- ---- the answer of a line
 
-too-long : {line : List ℕ} → text-limit < length line → LineAnswers line (refused (number text-stage))
+too-long : {line : List ℕ} → guideline-limit < length line → LineAnswers line (refused (number text-stage))
 too-long h = line-refused {s = text-stage} (line-long h) (λ r l. absurd (omega arith))
 
 -- what is kept of a line has the line's own answer: a longer line is refused either way
@@ -29,9 +29,9 @@ kept-answer {begun} {kept} {n} {a} b h =
     (λ l. subst (λ (w : List ℕ). LineAnswers w a) (b .same ∙ take-all kept-limit begun l) h)
     (λ l.
     let e = ap length (b .same) ∙ length-take kept-limit begun in
-    let t : text-limit < length (take n kept) = omega arith in
+    let t : guideline-limit < length (take n kept) = omega arith in
     let s = one-line-answer h (too-long t) in
-    subst (λ (x : LineAnswer). LineAnswers begun x) (sym s) (too-long (let z : text-limit < length begun = omega arith in z)))
+    subst (λ (x : LineAnswer). LineAnswers begun x) (sym s) (too-long (let z : guideline-limit < length begun = omega arith in z)))
     (le-or-gt (length begun) kept-limit)
 
 -- ---- where the input is cut

@@ -1,5 +1,3 @@
-pub mod Every
-pub mod Law
 pub mod Cert
 pub mod Steps
 pub mod Ends

@@ -19,7 +19,7 @@ use Rattle.matches.specs.KindsLaws.{fine-small}
 use Rattle.matches.specs.Machine.{starts, accepts, nextOf, accOf, run, Takes}
 use Rattle.matches.specs.Walk.{betterOf, beginOf, Sofar, Settled}
 use Rattle.matches.specs.declared.Best.{Best}
-use Rattle.matches.proofs.Every.{at, at-below}
+use Rattle.terminals.specs.Every.{at, at-below}
 use Rattle.matches.proofs.Cert.{run-small, run-more, run-dead, next-dead}
 
 pub cond-yes : {A : Type 0} (t : Bool) (a b : A) → t ≡ true → cond t a b ≡ a
@@ -110,18 +110,16 @@ module _ (t : List ℕ) (at : ℕ) (g : List ℕ) (ok : Begun t at g) where
   sofar-none best e =
       record {
         is = λ l. absurd (omega arith);
-        stands = λ l. absurd (omega arith);
         seen = λ l. absurd (omega arith);
         top = λ s m f l. let z = f .some-bytes in absurd (omega arith);
       }
 
   module _ (best : Best) (q r n : ℕ) (h : r < 7) (l : 0 < n) (k : at + n ≤ length t) (e : q ≡ After g t at r n) (b : Sofar t at (n * 7 + r) best) where
-    win : accOf q ≡ true → best .len < n → Sofar t at (n * 7 + (r + 1)) (record { len = n; rule = r; state = q })
+    win : accOf q ≡ true → best .len < n → Sofar t at (n * 7 + (r + 1)) (record { len = n; rule = r })
     win a g′ =
         let w = acc-start r n h (ap accOf (sym e) ∙ a) in
         record {
           is = λ _. record { is-rule = h; some-bytes = l; inside = k; accepts = ap accOf (sym (e ∙ w)) ∙ a };
-          stands = λ _. e ∙ w;
           seen = λ _. omega arith;
           top = λ s m f p. ⊎-elim
               (λ (o : m * 7 + s < n * 7 + r). ⊎-elim
@@ -136,7 +134,6 @@ module _ (t : List ℕ) (at : ℕ) (g : List ℕ) (ok : Begun t at g) where
     tie-kept g′ =
         record {
           is = b .is;
-          stands = b .stands;
           seen = λ y. let z = b .seen y in omega arith;
           top = λ s m f p. ⊎-elim
               (λ (o : m * 7 + s < n * 7 + r). b .top s m f o)
@@ -151,7 +148,6 @@ module _ (t : List ℕ) (at : ℕ) (g : List ℕ) (ok : Begun t at g) where
     no-match a =
         record {
           is = b .is;
-          stands = b .stands;
           seen = λ y. let z = b .seen y in omega arith;
           top = λ s m f p. ⊎-elim
               (λ (o : m * 7 + s < n * 7 + r). b .top s m f o)
@@ -178,7 +174,6 @@ module _ (t : List ℕ) (at : ℕ) (g : List ℕ) (ok : Begun t at g) where
   settled-end best n h b =
       record {
         is = b .is;
-        stands = b .stands;
         top = λ s m f. let x = f .is-rule in let y = f .inside in b .top s m f (omega arith);
       }
 
@@ -187,7 +182,6 @@ module _ (t : List ℕ) (at : ℕ) (g : List ℕ) (ok : Begun t at g) where
   settled-dead best n dead b =
       record {
         is = b .is;
-        stands = b .stands;
         top = λ s m f. ⊎-elim
             (λ (o : n + 1 < m). absurd (dead-not
             (let z : n + 1 + (m - (n + 1)) ≡ m = omega arith in

@@ -57,18 +57,11 @@ accepts = bytes "00000001010000010101100100001111110"
 unfoldable pub starts : List ℕ
 starts = 27 ∷ 1 ∷ 2 ∷ 3 ∷ 4 ∷ 5 ∷ 6 ∷ []
 
--- the states in which a float stands that has no exponent
-unfoldable pub plain-states : List ℕ
-plain-states = bytes "00000000000000000001100100000000000"
-
 unfoldable pub nextOf : ℕ → ℕ → ℕ
 nextOf q k = getD delta (q * 20 + k) 0 - 48
 
 unfoldable pub accOf : ℕ → Bool
 accOf q = eqb (getD accepts q 0) 49
-
-unfoldable pub plainOf : ℕ → Bool
-plainOf q = eqb (getD plain-states q 0) 49
 
 -- from a state over some bytes
 unfoldable pub run : ℕ → List ℕ → ℕ

@@ -6,12 +6,11 @@ use mathlib.Core.Logic.{_⊎_}
 use mathlib.Core.List.{List, [], _∷_}
 use lib.Dec.{ltb}
 use lib.ListN.{length, getD}
-use Rattle.paper_tokens.specs.Lexical.{part}
-use Rattle.matches.specs.Machine.{accOf, run, starts, Takes}
+use Rattle.matches.specs.Machine.{accOf, Takes}
 use Rattle.matches.specs.declared.Best.{Best}
 
 abbrev pub betterOf : Best → ℕ → ℕ → ℕ → Best
-betterOf best q r n = cond (accOf q) (cond (ltb (best .len) n) (record { len = n; rule = r; state = q }) best) best
+betterOf best q r n = cond (accOf q) (cond (ltb (best .len) n) (record { len = n; rule = r }) best) best
 
 abbrev pub beginOf : Bool → List ℕ
 beginOf true = 27 ∷ 1 ∷ 2 ∷ 3 ∷ 4 ∷ 5 ∷ 0 ∷ []
@@ -20,14 +19,12 @@ beginOf false = 27 ∷ 1 ∷ 2 ∷ 3 ∷ 4 ∷ 5 ∷ 6 ∷ []
 -- of the matches that come before p in the order by length and then by rule, the best one: none, or the longest, the first in order
 pub record Sofar (t : List ℕ) (at p : ℕ) (best : Best) : Type 0 where
   pub is : 0 < best .len → Takes t at (best .rule) (best .len)
-  pub stands : 0 < best .len → best .state ≡ run (getD starts (best .rule) 0) (part t at (best .len))
   pub seen : 0 < best .len → best .len * 7 + best .rule < p
   pub top : (s m : ℕ) → Takes t at s m → m * 7 + s < p → (m < best .len) ⊎ ((m ≡ best .len) × (best .rule ≤ s))
 
--- the longest match, the first rule in order that has it; and where that rule stands after it
+-- the longest match, the first rule in order that has it
 pub record Settled (t : List ℕ) (at : ℕ) (best : Best) : Type 0 where
   pub is : 0 < best .len → Takes t at (best .rule) (best .len)
-  pub stands : 0 < best .len → best .state ≡ run (getD starts (best .rule) 0) (part t at (best .len))
   pub top : (s m : ℕ) → Takes t at s m → (m < best .len) ⊎ ((m ≡ best .len) × (best .rule ≤ s))
 
 -- the end of a comment, **/, stands at p

@@ -40,11 +40,10 @@ pub fn kind(b: u8) -> usize
     }
 }
 
-// The longest match so far: its length, 0 for none, its rule, and where the rule stands after it.
+// The longest match so far: its length, 0 for none, and its rule.
 pub struct Best {
     pub len: usize,
     pub rule: usize,
-    pub state: usize,
 }
 
 // A longer match wins; on a tie the one that is there.
@@ -54,11 +53,7 @@ fn better(accepts: &[u8; 35], best: Best, q: usize, r: usize, n: usize) -> Best
 {
     if table::accepting(accepts, q) {
         if best.len < n {
-            return Best {
-                len: n,
-                rule: r,
-                state: q,
-            };
+            return Best { len: n, rule: r };
         }
         return best;
     }
@@ -134,11 +129,7 @@ fn walk(text: &[u8], at: usize, shut: bool) -> Best
     let delta = table::delta();
     let accepts = table::accepts();
     let mut states = begin(shut);
-    let mut best = Best {
-        len: 0,
-        rule: 0,
-        state: 0,
-    };
+    let mut best = Best { len: 0, rule: 0 };
     let mut i = at;
     'walk: while i < text.len() {
         let k = kind(text[i]);

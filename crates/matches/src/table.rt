@@ -1,7 +1,7 @@
 // The machine of the rules: a row for each state, a column for each kind of byte, a state written as its number counted from '0'.
 ghost use mathlib.Core.Path.{_≡_};
 ghost use Prim.Native.Nat.{_<_};
-ghost use Rattle.matches.specs.Machine.{delta as deltaOf, accepts as acceptsOf, nextOf, accOf, plainOf};
+ghost use Rattle.matches.specs.Machine.{delta as deltaOf, accepts as acceptsOf, nextOf, accOf};
 
 const KINDS: usize = 20;
 
@@ -45,9 +45,6 @@ HHHHHHHHHAJHHHHHHHHH\
 // Which states have a whole match behind them.
 const ACCEPTS: [u8; 35] = *b"00000001010000010101100100001111110";
 
-// Which states a float stands in that has no exponent.
-const PLAIN: [u8; 35] = *b"00000000000000000001100100000000000";
-
 fn wide(b: u8) -> usize
     ensures { λ r. ⌜ r ≡ b ⌝ }
 {
@@ -81,12 +78,4 @@ pub fn accepting(accepts: &[u8; 35], q: usize) -> bool
     ensures { λ r. ⌜ r ≡ accOf q ⌝ }
 {
     accepts[q] == b'1'
-}
-
-// The float that stands at q has no exponent.
-pub fn plain(q: usize) -> bool
-    requires { ⌜ q < 35 ⌝ }
-    ensures { λ r. ⌜ r ≡ plainOf q ⌝ }
-{
-    PLAIN[q] == b'1'
 }

@@ -5,7 +5,7 @@ use mathlib.Core.List.{List, [], _++_}
 use lib.ListN.{length, take}
 use Rattle.paper_guideline.specs.Line.{LineAnswer, LineAnswers}
 use Rattle.lines.specs.Run.{header, line-written, Run}
-use Rattle.written.specs.Longest.{answer-limit}
+use Rattle.written.specs.Limit.{answer-limit}
 use Rattle.output.specs.declared.State.{State}
 
 -- no line takes more bytes: twenty digits, a blank, the answer, a newline

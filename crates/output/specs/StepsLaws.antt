@@ -14,7 +14,7 @@ use Rattle.lines.specs.Kept.{Takes}
 use Rattle.lines.specs.Run.{line-written, Run, line-ends, line-goes-on, last-line, no-last-line}
 use Rattle.lines.specs.RunLaws.{moves-on}
 use Rattle.lines.specs.declared.Taken.{Taken}
-use Rattle.written.specs.Longest.{answer-limit}
+use Rattle.written.specs.Limit.{answer-limit}
 use Rattle.line.specs.Reply.{Answered, Reply}
 use Rattle.output.specs.Steps.{line-limit, number-limit, Put, Room, LineWritten, Steps, Ends}
 use Rattle.output.specs.declared.State.{State}

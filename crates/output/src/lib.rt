@@ -1,4 +1,5 @@
 // What the small program writes, in a lent buffer: the header, and step by step each line's number and answer.
+use written::Answer;
 ghost use mathlib.Core.Path.{_≡_};
 ghost use Prim.Native.Nat.{_+_, _<_};
 ghost use lib.ListN.{length, take};
@@ -9,11 +10,8 @@ ghost use Rattle.output.specs.Steps.{line-limit, number-limit, Room, Sta
 pub struct Written;
 
 impl Written {
-    // bytes of an answer
-    pub const ANSWER: usize = 1_024;
-
     // bytes of a line: twenty digits, a blank, the answer, a newline
-    pub const LINE: usize = 20 + 1 + Written::ANSWER + 1;
+    pub const LINE: usize = 20 + 1 + Answer::LIMIT + 1;
 
     pub fn line() -> usize
         ensures { λ r. ⌜ r ≡ line-limit ⌝ }
@@ -69,7 +67,7 @@ fn write_line(kept: &[u8], n: usize, number: usize, out: &mut [u8], o: usize) ->
     requires { ⌜ Room (now out) o ⌝ }
     ensures { λ r. ⌜ LineWritten (take n (now (kept .entry))) number (now (out .entry)) (now (out .exit)) o r ⌝ }
 {
-    let mut text = [0u8; Written::ANSWER];
+    let mut text = [0u8; Answer::LIMIT];
     let len = answer(kept, n, &mut text);
     let a = digits::number(number, out, o);
     let b = digits::byte(b' ', out, a);

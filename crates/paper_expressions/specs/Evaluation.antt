@@ -29,7 +29,7 @@ pub data Elements : List Value → List Scalar → Type 0 where
 -- Evaluates v T E cs V: V = Evaluate(E, T), by the clauses cs, the first of 9.1 and the others of what it calls
 mutual
   pub data Evaluates (v : View) (T : ℕ) : Expr → List Clause → Value → Type 0 where
-    -- 1. If E is an <atom> then: If there is a component identifier D such that D = ResolveDataReference(E,T)
+    -- 1. If E is an <atom> then: If there is a component identifier D such that D=ResolveDataReference(E,T)
     --    then EvaluateDataReference(D,T)
     atom-data : {a : List ℕ} {d : ℕ} {b c : Clause} {w : Value}
         → ResolveData v T a b (some d) → EvaluateData v T d c w → Evaluates v T (Atom a) (§9·1-1a ∷ b ∷ c ∷ []) w

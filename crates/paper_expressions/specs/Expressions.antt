@@ -43,7 +43,7 @@ pub data IntegerOrReal : Ty → Type 0 where
   or-real : IntegerOrReal Real
 
 pub data Listed : List Ty → Ty → Type 0 where
-  -- 8. "[" "]": setof_anything
+  -- 8. "[" "]": setof_anything      (01: "the expression [] is typed by section 4 alone")
   rule-8 : Listed [] SetofAnything
   -- 9. "[" E1 "," ... "," En "]" where n > 0
   --   a. If for all i the expression Ei has type text then setof_text
@@ -82,17 +82,17 @@ pub data Applied (o : Op) (ts : List Ty) : Ty → Type 0 where
   rule-10a : {t : Ty} → Unique ts (allowed o) t → Applied o ts t
   --   b. Else if there exist types T'1, .., T'n, T such that one of the allowed types for Op is (T'1 × ... × T'n) → T and .. then T
   rule-10b : {t : Ty} → ((u : Ty) → ¬ Unique ts (allowed o) u) → First ts (allowed o) t → Applied o ts t
-  --   c. Else untypeable
+  --   c. "Else the type of E is untypeable"
 
 -- ---- 4.1: the type of an expression E of the task T
 
 mutual
   pub data HasType (v : View) (T : ℕ) : Expr → Ty → Type 0 where
     -- 1. <atom>      a. within the scope of a <parameter_declaration>: left out (10); request 8/13
-    --   b. If there is a data item whose name is E (A to Z folded, as in 9.5) then by the type of that data item, as in 4.3
+    --   b. "Else if there is a data item whose name is E" (A to Z folded, as in 9.5) then by the type of that data item, as in 4.3
     rule-1b : {a : List ℕ} {d : ℕ} {x : Item} {t : Ty}
         → At (v .items) d x → Alike (x .name) a → inferred (x .declared) ≡ t → HasType v T (Atom a) t
-    --   c. Else text
+    --   c. "Else the type of E is text."
     rule-1c : {a : List ℕ} → ((d : ℕ) (x : Item) → At (v .items) d x → ¬ Alike (x .name) a) → HasType v T (Atom a) Text
     -- 2. <integer>: integer
     rule-2 : {n : ℤ} → HasType v T (IntegerLit n) Integer

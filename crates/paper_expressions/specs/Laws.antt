@@ -1,5 +1,6 @@
 pub mod Search
 pub mod Resolve
+pub mod ResolveRows
 pub mod Tests
 pub mod Compare
 pub mod Only
@@ -7,8 +8,10 @@ pub mod Finds
 pub mod Typing
 pub mod Functors
 pub mod Promise
+pub mod CallLaws
 pub mod WithinLimits
 pub mod Minimum
+pub mod MinimumOf
 pub mod Parentheses
 pub mod Soundness
 pub mod Sheet

@@ -7,4 +7,7 @@ pub mod View
 pub mod Operators
 pub mod Expressions
 pub mod Evaluation
+pub mod Called
+pub mod Within
+pub mod Promises
 pub mod Laws

@@ -44,7 +44,7 @@ arithmetic-types =
     ∷ (Real ∷ Real ∷ [] ⇒ Real)
     ∷ []
 
--- 01: "Real products and all quotients are cut to thousandths toward zero": numerator and denominator
+-- 01: "Real products and all quotients are cut to thousandths toward zero, and the limit is tested after that.": numerator and denominator
 abbrev pub cut : ℤ → ℤ → ℤ
 cut n d = quotZ n d
 
@@ -61,8 +61,9 @@ decimal minus x y = x -ℤ y
 decimal times x y = cut (x *ℤ y) unit
 
 pub data Arith (o : Arithmetic) (v1 v2 : Value) : Clause → Value → Type 0 where
-  -- If V1 and V2 are both integers or reals then F+(V1, V2) = V1 + V2
-  --   01: "+ - * give an integer if every operand is one, else a real"; "an arithmetic result outside its limit is unknown"
+  -- "If V1 and V2 are both integers or reals then" F+(V1, V2) = V1 + V2
+  --   01: "`+ - *` and `sum` give an integer if every operand is one, else a real."; "An arithmetic result outside its limit, or a division
+  --   by zero, is unknown. This holds for `sum` too, tested on the total."
   arith-1a : {x y : ℤ} → IsInteger v1 x → IsInteger v2 y → InLimit (whole o x y)
       → Arith o v1 v2 §11·1·1-1a (one (integer (whole o x y)))
   arith-1b : {x y : ℤ} → IsInteger v1 x → IsInteger v2 y → ¬ InLimit (whole o x y)
@@ -93,7 +94,7 @@ pub data Divide (v1 v2 : Value) : Clause → Value → Type 0 where
   -- Else if either V1 = unknown or V2 = unknown then F/(V1, V2) = unknown
   divide-2 : ¬ BothNumbers v1 v2 → EitherUnknown v1 v2 → Divide v1 v2 §11·1·2-2 (one unknown)
 
--- ---- 11.1.3  ">", "<", ">=" or "=>", "<=" or "=<", "=", "!="
+-- ---- 11.1.3  ">", "<", ">=" or "=>", "<=" or "=<", "=", "!="      (01: "<> is not in the grammar and is no token.")
 
 pub data Comparison : Type 0 where
   is> is< is>= is<= is= is!= : Comparison
@@ -110,7 +111,7 @@ comparison-types =
 pub data Sign : Type 0 where
   +1 -1 ±0 ±? : Sign
 
--- 01: text compares byte by byte, a proper prefix is smaller
+-- 01: "Text compares byte by byte with A to Z folded to a to z; a proper prefix is smaller."
 pub data Before : List ℕ → List ℕ → Type 0 where
   prefix : {b : ℕ} {t : List ℕ} → Before [] (b ∷ t)
   at-byte : {a b : ℕ} {s t : List ℕ} → a < b → Before (a ∷ s) (b ∷ t)
@@ -140,7 +141,8 @@ abbrev pub Else-6 : Value → Value → Type 0
 Else-6 v1 v2 = Else-5 v1 v2 × ¬ IsSequence v1 []
 
 pub data Comp : Value → Value → Clause → Sign → Type 0 where
-  -- If V1 = unknown or V2 = unknown then comp (V1, V2) = unknown      (01: the second V1 of the print is V2)
+  -- If V1 = unknown or V2 = unknown then comp (V1, V2) = unknown
+  --   Printed: "If V1 = unknown or V1 = unknown". 01: "In the first clause of comp the second V1 is V2: either one unknown gives unknown."
   comp-1 : {v1 v2 : Value} → EitherUnknown v1 v2 → Comp v1 v2 §11·1·3-1 ±?
   -- Else if V1 and V2 are both integers or reals then
   --   If V1 > V2 comp (V1, V2) = 1
@@ -267,7 +269,7 @@ pub data If (v1 v2 v3 : Value) : Clause → Value → Type 0 where
   -- Else Fif(V1, V2, V3) = unknown
   if-3 : ¬ IsTruth v1 true → ¬ IsTruth v1 false → If v1 v2 v3 §11·2·1-3 (one unknown)
 
--- ---- 11.2.2  "-", unary minus      (01: a minus before an expression is typed and evaluated as this functor; what is within its limit has its negation within it)
+-- ---- 11.2.2  "-", unary minus      (01: "Unary minus is typed and evaluated as the functor of 11.2.2"; what is within its limit has its negation within it)
 
 abbrev pub negate-types : List Allowed
 negate-types =
@@ -294,7 +296,7 @@ isknown-types =
     ∷ []
 
 pub data IsKnown (v : Value) : Clause → Value → Type 0 where
-  -- If V = unknown then Fisknown(V) = true
+  -- If V = unknown then Fisknown(V) = true      (01: "isknown is as printed: true when its argument is unknown.")
   isknown-1 : IsUnknown v → IsKnown v §11·2·3-1 (one (truth true))
   -- Else Fisknown(V) = false
   isknown-2 : ¬ IsUnknown v → IsKnown v §11·2·3-2 (one (truth false))
@@ -449,7 +451,7 @@ pub data IsIn (v : View) (T : ℕ) (s : TaskState) (w : Value) : Clause → Valu
   is-in-1 : Resolved v T w none → IsIn v T s w §11·2·10-1 (one unknown)
   -- Otherwise true if the properties table contains (C, state, dormant)
   is-in-2 : {c : ℕ} → Resolved v T w (some c) → InState v c s → IsIn v T s w §11·2·10-2 (one (truth true))
-  -- and false otherwise      (01: a task whose state a collision has made unknown is in none of the four states)
+  -- and false otherwise      (01: "A task whose state a collision has made unknown is in none of the four states")
   is-in-3 : {c : ℕ} → Resolved v T w (some c) → ¬ InState v c s → IsIn v T s w §11·2·10-3 (one (truth false))
 
 -- ======== all operators
@@ -463,7 +465,7 @@ pub data Op : Type 0 where
   extreme : Extreme → Op
   nth : Op
   is-in : TaskState → Op
-  -- 01: "a functor name that section 11 doesn't have has no type"
+  -- 01: "a functor name that section 11 doesn't have has no type (5)"
   no-such : List ℕ → Op
 
 -- <infix_op>; every other operator is a <functor_name>
@@ -522,7 +524,7 @@ allowed nth = nth-types
 allowed (is-in s) = is-in-types
 allowed (no-such n) = []
 
--- Fop(T, V1, ..., Vn)
+-- Fop(T, V1, ..., Vn): "Fop is the evaluation function for Op, as defined in ¶11"
 pub data F (v : View) (T : ℕ) : Op → List Value → Clause → Value → Type 0 where
   F-arithmetic : {o : Arithmetic} {v1 v2 r : Value} {c : Clause} → Arith o v1 v2 c r → F v T (arithmetic o) (v1 ∷ v2 ∷ []) c r
   F-divide : {v1 v2 r : Value} {c : Clause} → Divide v1 v2 c r → F v T divide (v1 ∷ v2 ∷ []) c r

@@ -1,13 +1,14 @@
 -- The Properties table as far as expressions read it, and the references into it: 9.5, 9.6, 9.7. Definitions only.
 -- A component is given by its index in its list, and T is the task that the expression belongs to.
 use mathlib.Core.Path.{_≡_}
+use mathlib.Core.Bool.{Bool, true, false}
 use mathlib.Core.List.{List, [], _∷_}
 use mathlib.Core.Option.{Option, none, some}
 use Prim.Native.Nat.{ℕ, zero, suc}
 use Rattle.paper_expressions.specs.Bytes.{Alike}
 use Rattle.paper_expressions.specs.Values.{Value, TaskState}
 use Rattle.paper_expressions.specs.Types.{Declared, inferred, Of}
-use Rattle.paper_expressions.specs.Clauses.{Clause, §9·5-2, §9·5-3, §9·6-1, §9·6-2, §9·6-3, §9·7-1, §9·7-2}
+use Rattle.paper_expressions.specs.Clauses.{Clause, §9·5-2, §9·5-3, §9·6-1, §9·6-2, §9·6-3, §9·7-1, §9·7-2, §9·7-3}
 
 -- the rows of a data item D: (D, class, data_item), (D, name, A), (D, type, ..) and, if there, (D, value, V)
 pub record Item : Type 0 where
@@ -35,7 +36,7 @@ pub data At {A : Type 0} : List A → ℕ → A → Type 0 where
 
 pub data ResolveData (v : View) (T : ℕ) (a : List ℕ) : Clause → Option ℕ → Type 0 where
   -- 1. If the properties table contains rows (T, parameters, ..) ..: left out (10); request 8/13
-  -- 2. Else if there is an A' such that A' and A are equal if case is ignored and a component identifier D such that
+  -- 2. Else if there is an A' such A' and A are equal if case is ignored and a component identifier D such that
   --    the Properties table contains the rows (D, class, data_item) and (D, name, A') then D
   resolve-data-2 : {d : ℕ} {x : Item} → At (v .items) d x → Alike (x .name) a → ResolveData v T a §9·5-2 (some d)
   -- 3. Else unknown
@@ -55,7 +56,12 @@ pub data IsAncestor (v : View) (t1 : ℕ) : ℕ → Clause → Type 0 where
   -- 2. Else if there exists a task identifier T3 such that IsAncestor(T1, T3) is true and
   --    the Properties table contains the row (T2, parent_plan, T3) then IsAncestor(T1, T2) is true
   ancestor-2 : {t2 t3 : ℕ} {c : Clause} → ¬ ParentPlan v t2 t1 → IsAncestor v t1 t3 c → ParentPlan v t2 t3 → IsAncestor v t1 t2 §9·7-2
-  -- 3. Else IsAncestor(T1, T2) is false: there is no clause c with IsAncestor v t1 t2 c
+
+-- IsAncestor(T1, T2) is true or false
+pub data Ancestry (v : View) (t1 t2 : ℕ) : Clause → Bool → Type 0 where
+  is-ancestor : {c : Clause} → IsAncestor v t1 t2 c → Ancestry v t1 t2 c true
+  -- 3. Else IsAncestor(T1, T2) is false
+  ancestor-3 : ((c : Clause) → ¬ IsAncestor v t1 t2 c) → Ancestry v t1 t2 §9·7-3 false
 
 -- ---- 9.6  ResolveTaskReference(A, T): none is the constant unknown
 

@@ -244,7 +244,7 @@ printed =
     (⟨yes-or-no⟩ ::= ‘yes-or-no’ ∷ []) ∷  -- 3.3: printed <atom>, which must be yes or no
     []
 
--- An expression with no `and` outside brackets (document 01): the productions of <expression> but that with "and". What stands inside brackets is any expression.
+-- 01: "In a postcondition an `and` outside the assigned expression's own brackets ends it.": the productions of <expression> but that with "and". What stands inside brackets is any expression.
 unfoldable pub no-and : List Prod
 no-and =
     (⟨expression-no-and⟩ ::= ⟨atom⟩ ∷ []) ∷

@@ -160,6 +160,7 @@ abbrev pub ⟨nonempty-expression-list⟩ : ℕ
 abbrev pub ⟨nonempty-parameter-list⟩ : ℕ
 ⟨nonempty-parameter-list⟩ = 153
 
+-- 01: "the "- " printed under number is plain "-""
 abbrev pub ⟨number⟩ : ℕ
 ⟨number⟩ = 154
 

@@ -8,10 +8,11 @@ use Rattle.paper_tokens.specs.Tokens.{terminals}
 use Rattle.paper_grammar.specs.Nonterminals.{⟨process⟩}
 use Rattle.paper_grammar.specs.Grammar.{grammar}
 
+-- the tokens w are an A, by the productions of 3.2
 unfoldable pub Sentence-of : ℕ → List ℕ → Type 0
 Sentence-of A w = Derives terminals grammar (A ∷ []) w
 
--- 3.1: the root symbol is <process>
+-- 3.1: "The root symbol of the BNF syntax is <process>"
 abbrev pub Guideline : List ℕ → Type 0
 Guideline w = Sentence-of ⟨process⟩ w
 

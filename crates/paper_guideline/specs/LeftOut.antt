@@ -10,7 +10,7 @@ use Tokens.{“mandatory-validation”, “derivation”, “unit”, “result-
 use Rattle.paper_tokens.specs.Lexical.{Token, atom, HasExponent}
 use Rattle.paper_tokens.specs.Terminals.{OneOf, Terminal, name}
 
--- the reserved words and symbols: a part of a guideline, an attribute, an expression, an operator, a name with a colon
+-- "Anything else that the grammar or section 11 has is refused with 10": the reserved words and symbols: a part of a guideline, an attribute, an expression, an operator, a name with a colon
 unfoldable pub left-out-words : List ℕ
 left-out-words =
     “directives” ∷ “task” ∷ “decision”
@@ -35,5 +35,6 @@ pub data LeftOut : List Token → ℕ → Type 0 where
   left-out-word : {t : Token} {ts : List Token} {k : ℕ} → Terminal t k → List·Memᴰ k left-out-words → LeftOut (t ∷ ts) (t .place)
   -- in a guideline an atom before an opening parenthesis is a functor's name
   left-out-functor : {t o : Token} {ts : List Token} → t .rule ≡ atom → OneOf (name t) left-out-functors → Terminal o “open” → LeftOut (t ∷ o ∷ ts) (t .place)
+  -- "exponents in floats"
   left-out-exponent : {t : Token} {ts : List Token} → HasExponent t → LeftOut (t ∷ ts) (t .place)
   further-on : {t : Token} {ts : List Token} {p : ℕ} → LeftOut ts p → LeftOut (t ∷ ts) p

@@ -5,8 +5,8 @@ use lib.Dec.{leb}
 use Rattle.paper_expressions.specs.Expressions.{Expr, Exprs, Atom, IntegerLit, FloatLit, StringLit, Paren, Listing, Apply, ε, _▸_}
 
 -- bytes of the whole text that is loaded
-abbrev pub text-limit : ℕ
-text-limit = 16384
+abbrev pub guideline-limit : ℕ
+guideline-limit = 16384
 
 abbrev pub token-limit : ℕ
 token-limit = 4096

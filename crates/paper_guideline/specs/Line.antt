@@ -21,7 +21,7 @@ use Rattle.paper_tokens.specs.Lexical.{Token, Tokens, Stuck}
 use Rattle.paper_tokens.specs.Terminals.{Terminals}
 use Rattle.paper_guideline.specs.Tree.{anywhere, Tree}
 use Rattle.paper_guideline.specs.LeftOut.{LeftOut}
-use Rattle.paper_guideline.specs.Limits.{text-limit, token-limit, depth-limit, part-limit, parts, depth, longest-list}
+use Rattle.paper_guideline.specs.Limits.{guideline-limit, token-limit, depth-limit, part-limit, parts, depth, longest-list}
 use Rattle.paper_guideline.specs.Refusals
 use Refusals.{Stage, text-stage, lexical-stage, count-stage, grammar-stage, left-out-stage, limit-stage, type-stage, turn, number, TooManyOpen, TokenBreach}
 
@@ -38,7 +38,7 @@ pub record LineTree (line : List ℕ) (e : Expr) : Type 0 where
 
 pub data LineBreach (line : List ℕ) : Stage → Type 0 where
   line-high-byte : {p b : ℕ} → At line p b → 127 < b → LineBreach line text-stage
-  line-long : text-limit < length line → LineBreach line text-stage
+  line-long : guideline-limit < length line → LineBreach line text-stage
   line-no-rule : {p : ℕ} → Stuck line p → LineBreach line lexical-stage
   line-many-tokens : {ts : List Token} → Tokens line 0 ts → token-limit < length ts → LineBreach line count-stage
   line-many-open : {ts : List Token} {p : ℕ} → Tokens line 0 ts → TooManyOpen 0 ts p → LineBreach line count-stage
@@ -93,7 +93,7 @@ with-sign f (negsuc n) = 45 ∷ f (suc n)
 abbrev pub with-point : ℕ → List ℕ
 with-point m = digits-of (m / 1000) ++ 46 ∷ last-digits 3 m
 
--- "Text is written bare, unknown as that word"
+-- "Text is written bare, unknown as that word, a list as `[1, unknown]`."
 abbrev pub scalar-written : Scalar → List ℕ
 scalar-written unknown = bytes "unknown"
 scalar-written (truth true) = bytes "true"
@@ -117,7 +117,7 @@ abbrev pub answer-written : LineAnswer → List ℕ
 answer-written (refused n) = bytes "refused " ++ digits-of n
 answer-written (gives t v) = bytes (type-name t) ++ 32 ∷ value-written v
 
--- ---- the whole of it: the header, and for each line, counted from 1, its number and its answer
+-- ---- "it writes exactly": the header, and for each line, counted from 1, its number and its answer
 
 -- what stands before each newline (10), and behind the last one if any byte does
 abbrev last-line : List ℕ → List (List ℕ)

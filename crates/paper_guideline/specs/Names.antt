@@ -17,11 +17,11 @@ use Rattle.paper_guideline.specs.Parts.{assignments, Component, componen
 
 -- ---- repeated attributes: the words, and those that may stand again
 
-abbrev generic-word : Generic → ℕ
+abbrev pub generic-word : Generic → ℕ
 generic-word (caption x) = “caption”
 generic-word (description x) = “description”
 
-abbrev word-of : Attribute → ℕ
+abbrev pub word-of : Attribute → ℕ
 word-of (generic g) = generic-word g
 word-of (precondition x) = “precondition”
 word-of (wait-condition x) = “wait-condition”
@@ -31,11 +31,11 @@ word-of (trigger n) = “trigger”
 word-of (component n xs) = “component”
 word-of (source n xs) = “source”
 
-abbrev component-word : ComponentAttribute → ℕ
+abbrev pub component-word : ComponentAttribute → ℕ
 component-word (schedule-constraint n) = “schedule-constraint”
 component-word (terminal b) = “terminal”
 
-abbrev source-word : SourceAttribute → ℕ
+abbrev pub source-word : SourceAttribute → ℕ
 source-word (source-generic g) = generic-word g
 source-word (mandatory b) = “mandatory”
 
@@ -83,7 +83,8 @@ pub data NameBreach (g : List TopLevel) : ℕ → Type 0 where
   component-attribute-twice : {i p : ℕ} {c : Component} → At (components g) i c → Repeated component-word (c .attributes) p → NameBreach g p
   source-attribute-twice : {i p : ℕ} {s : Source} → At (sources g) i s → Repeated source-word (s .attributes) p → NameBreach g p
   data-attribute-twice : {i p : ℕ} {d : DataItem} → At (data-items g) i d → Repeated generic-word (d .attributes) p → NameBreach g p
-  -- 6.1, 1: a component is named as a task that is defined (its "exactly one": task-twice)
+  -- 6.1: "1. If a plan definition contains a component definition for a component named T then the guideline must contain exactly one
+  -- task definition for a task named T." (its "exactly one": task-twice)
   component-of-no-task : {i : ℕ} {c : Component} → At (components g) i c
       → ((j : ℕ) (t : Task) → At (tasks g) j t → ¬ Names c t) → NameBreach g (c .named .place)
   -- "the root, which is a component of none"

@@ -22,7 +22,7 @@ use Rattle.paper_guideline.specs.LeftOut.{LeftOut}
 use Rattle.paper_guideline.specs.Structure.{Name, TopLevel, DataItem, Structure, tasks, data-items}
 use Rattle.paper_guideline.specs.Parts.{Role, condition, wording, assigned-to, Typed, expressions, assignments, sources}
 use Rattle.paper_guideline.specs.Limits
-use Limits.{text-limit, token-limit, bracket-limit, task-limit, data-item-limit, part-limit, depth-limit, assignment-limit, source-limit, decimal-limit}
+use Limits.{guideline-limit, token-limit, bracket-limit, task-limit, data-item-limit, part-limit, depth-limit, assignment-limit, source-limit, decimal-limit}
 use Limits.{parts, depth, longest-list}
 use Rattle.paper_guideline.specs.Names.{NameBreach}
 
@@ -114,12 +114,12 @@ pub record Read (text : List ℕ) (g : List TopLevel) : Type 0 where
 
 -- Short: some lent table is shorter than its least length
 pub data Breach (Short : Type 0) (text : List ℕ) : Stage → ℕ → Type 0 where
-  -- 1: "a byte over 127", at the byte; "text over 16,384 bytes", at the text's length
+  -- 1: "text over 16,384 bytes, or a byte over 127"; "for 1 the byte"; "for 1 by length .. the text's length"
   high-byte : {p b : ℕ} → At text p b → 127 < b → Breach Short text text-stage p
-  long : text-limit < length text → Breach Short text text-stage (length text)
-  -- 2: "no lexical rule of section 2 matches at a place", there
+  long : guideline-limit < length text → Breach Short text text-stage (length text)
+  -- 2: "no lexical rule of section 2 matches at a place"; "for 2 where no rule matches"
   no-rule : {p : ℕ} → Stuck text p → Breach Short text lexical-stage p
-  -- 6: the count of tokens, at the text's length; open brackets, at the bracket
+  -- 6: the count of tokens, at the text's length; open brackets, "by one token or bracket, its first byte"
   many-tokens : {ts : List Token} → Tokens text 0 ts → token-limit < length ts → Breach Short text count-stage (length text)
   many-open : {ts : List Token} {p : ℕ} → Tokens text 0 ts → TooManyOpen 0 ts p → Breach Short text count-stage p
   -- 3: "the tokens are not a guideline by section 3.2", at "the first token that no guideline can have there (or the text's length)"
@@ -127,9 +127,9 @@ pub data Breach (Short : Type 0) (text : List ℕ) : Stage → ℕ → Type 0 wh
       → Tokens text 0 ts → Terminals ts ks → First-bad ⟨process⟩ ks i → At ts i t → Breach Short text grammar-stage (t .place)
   bad-end : {ts : List Token} {ks : List ℕ}
       → Tokens text 0 ts → Terminals ts ks → First-bad ⟨process⟩ ks (length ts) → Breach Short text grammar-stage (length text)
-  -- 10: "the guideline uses something left out", at "the token that names the thing left out"
+  -- 10: "the guideline uses something left out above", at "the token that names the thing left out (of a colon name, the colon)"
   uses-left-out : {ts : List Token} {p : ℕ} → Tokens text 0 ts → LeftOut ts p → Breach Short text left-out-stage p
-  -- 6: by one token, its first byte
+  -- 6: "a limit below is passed": by one token, its first byte
   token-breach : {ts : List Token} {i : ℕ} {t : Token} → Tokens text 0 ts → At ts i t → TokenBreach t → Breach Short text limit-stage (t .place)
   -- "by depth or list elements, the start of the outermost expression"
   too-deep : {g : List TopLevel} {i : ℕ} {x : Typed} → Read text g → At (expressions g) i x → depth-limit < depth (x .expression .tree)
@@ -143,7 +143,7 @@ pub data Breach (Short : Type 0) (text : List ℕ) : Stage → ℕ → Type 0 wh
   many-assignments : {g : List TopLevel} → Read text g → assignment-limit < length (assignments g) → Breach Short text limit-stage (length text)
   many-sources : {g : List TopLevel} → Read text g → source-limit < length (sources g) → Breach Short text limit-stage (length text)
   short-table : Short → Breach Short text limit-stage (length text)
-  -- 4: "a rule on names is broken"
+  -- 4: "a rule on names is broken", at "the name, the later of two, or the repeated attribute's word"
   name-breach : {g : List TopLevel} {p : ℕ} → Read text g → NameBreach g p → Breach Short text name-stage p
   -- 5: "some expression has no fitting type", at "the start of the outermost expression"
   no-type : {g : List TopLevel} {i : ℕ} {x : Typed} → Read text g → At (expressions g) i x → ¬ Fitting (declared-items g) x (x .role)

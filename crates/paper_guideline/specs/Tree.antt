@@ -32,6 +32,7 @@ pub data MayStand : Where → ℕ → Type 0 where
   any-operator : {k : ℕ} → MayStand anywhere k
   but-and : {k : ℕ} → ¬ (k ≡ “and”) → MayStand assigned k
 
+-- 01: "Parsing is a cycle: a bracketed list holds expressions, and an expression may be a bracketed list."
 mutual
   -- Tree a l w r e: of the tokens w, those before r are an expression that holds together at level l or tighter, and e is its tree
   pub data Tree : Where → ℕ → List Token → List Token → Expr → Type 0 where

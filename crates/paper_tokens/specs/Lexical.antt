@@ -34,7 +34,8 @@ pub record Reserved (w : List ℕ) (k : ℕ) : Type 0 where
 abbrev is : ℕ → Form
 is k = one (k ∷ [])
 
--- "A text string which consists of one or more underscores or nonwhitespace alphanumeric characters and which does not begin with a digit"
+-- "An atom consists of either a text string which consists of one or more underscores or nonwhitespace alphanumeric characters and
+-- which does not begin with a digit
 unfoldable pub bare-atom : Form
 bare-atom = one (letter ∷ power ∷ []) then many (one (letter ∷ power ∷ digit ∷ []))
 
@@ -45,43 +46,46 @@ ends-in-backslash = any then is backslash
 abbrev has-unescaped : ℕ → Form
 has-unescaped q = no ends-in-backslash then is q then any
 
--- quotes "enclosing a sequence of zero or more characters which may contain any character other than an unescaped" quote
+-- an opening quote, any text in which it does not stand unescaped, and a closing one
 abbrev pub enclosed : ℕ → Form
 enclosed q = is q then no (has-unescaped q or ends-in-backslash) then is q
 
+-- or a pair of single quotes enclosing a sequence of zero or more characters which may contain any character other than an
+-- unescaped single quote"
 unfoldable pub quoted-atom : Form
 quoted-atom = enclosed quote
 
--- "an optional minus sign ('-') followed by one or more digits"
+-- "An integer is an optional minus sign ('-') followed by one or more digits."
 unfoldable pub integer-form : Form
 integer-form = opt (is minus) then some (is digit)
 
--- "an optional minus sign ('-') followed by either a sequence of zero or more digits followed by a period ('.') followed by one or
+-- "A float is an optional minus sign ('-') followed by either a sequence of zero or more digits followed by a period ('.') followed by one or
 -- more digits, or a sequence of one or more digits followed by a period ('.') followed by zero or more digits"
 unfoldable pub plain-float : Form
 plain-float =
     opt (is minus)
     then ((many (is digit) then is point then some (is digit)) or (some (is digit) then is point then many (is digit)))
 
--- "a sequence consisting of one of the letters "e", "E", "d", or "D" and then one or more digits"
+-- an exponent
 unfoldable pub exponent : Form
 exponent = is power then some (is digit)
 
--- "optionally followed by" an exponent
+-- "optionally followed by a sequence consisting of one of the letters "e", "E", "d", or "D" and then one or more digits"
 unfoldable pub float-form : Form
 float-form = plain-float then opt exponent
 
+-- "A double quoted string is a pair of double quote characters enclosing a sequence of zero or more characters .."
 unfoldable pub string-form : Form
 string-form = enclosed double-quote
 
--- "any sequence of one or more spaces, newlines, carriage returns or tabs"
+-- "White Space means any sequence of one or more spaces, newlines, carriage returns or tabs."
 unfoldable pub white-form : Form
 white-form = some (is blank)
 
 abbrev closing : Form
 closing = is star then is star then is slash
 
--- "the string /** followed by any sequence of characters that does not include the string **/ followed by the string **/"
+-- "A comment is the string /** followed by any sequence of characters that does not include the string **/ followed by the string **/"
 unfoldable pub comment-form : Form
 comment-form = is slash then is star then is star then no (any then closing then any) then closing
 
@@ -95,8 +99,7 @@ Matches double-quoted-string w = Match string-form w
 Matches white-space w = Match white-form w
 Matches comment w = Match comment-form w
 
--- ---- 1. "Identify for the longest string that matches one of the lexical rules above, if the longest string matches more than rule
---         then use the rule that comes first in the list above"
+-- ---- 1. "Identify for the longest string that matches one of the lexical rules above, if the longest string matches more than rule then use the rule that comes first in the list above"
 
 -- the n bytes of a text from a place on
 abbrev pub part : List ℕ → ℕ → ℕ → List ℕ
@@ -107,6 +110,8 @@ pub record Fits (text : List ℕ) (at : ℕ) (r : Rule) (n : ℕ) : Type 0 where
   pub inside : at + n ≤ length text
   pub matches : Matches r (part text at n)
 
+-- 01: "At each place it tries every rule and stops at the first byte that no rule can take. The longest match wins; on a tie, the order
+-- of section 2."
 pub record Longest (text : List ℕ) (at : ℕ) (r : Rule) (n : ℕ) : Type 0 where
   pub fits : Fits text at r n
   pub longest : {s : Rule} {m : ℕ} → Fits text at s m → m ≤ n
@@ -126,7 +131,7 @@ pub record Token : Type 0 where
 abbrev pub token : List ℕ → ℕ → Rule → ℕ → Token
 token text at r n = record { rule = r; place = at; bytes = part text at n }
 
--- ---- 3. "Unless the end of the text has been reached, start at the end of the string that has just been recognised and repeat"
+-- ---- 3. "Unless the end of the text has been reached, start at the end of the string that has just been recognised and repeat steps 1,2,3."
 
 -- the tokens of a text from a place on
 pub data Tokens (text : List ℕ) : ℕ → List Token → Type 0 where
@@ -148,12 +153,13 @@ pub record Stuck (text : List ℕ) (at : ℕ) : Type 0 where
 
 -- ---- what a token says
 
--- the text of a token without its quotes, where it has any    (01: "a backslash stays in the text")
 abbrev but-last : List ℕ → List ℕ
 but-last [] = []
 but-last (b ∷ []) = []
 but-last (b ∷ c ∷ w) = b ∷ but-last (c ∷ w)
 
+-- the text of a token without its quotes, where it has any
+-- 01: "A quoted atom and a bare one with the same inner characters are the same name; a backslash stays in the text."
 abbrev pub inner : List ℕ → List ℕ
 inner [] = []
 inner (b ∷ w) = cond (eqb b 39 || eqb b 34) (but-last w) (b ∷ w)

@@ -18,11 +18,14 @@ pub record OneOf (w : List ℕ) (texts : List String) : Type 0 where
 abbrev pub name : Token → List ℕ
 name t = inner (t .bytes)
 
+-- 3.1: "Text strings enclosed in double quotes represent reserved words recognized by the lexical analyser"
 pub data Terminal (t : Token) : ℕ → Type 0 where
   a-reserved-word : {k : ℕ} → t .rule ≡ reserved-word → Reserved (t .bytes) k → Terminal t k
-  -- 3.3: an atom that is one of the strings "yes" or "no", and one that is the name of a type
+  -- 3.3: "<yes_or_no> must be an atom and .. this atom must be one of the strings "yes" or "no""
   yes-no : t .rule ≡ atom → OneOf (name t) yes-or-no → Terminal t ‘yes-or-no’
+  -- 3.3: "<data_type> must be one of the atoms "text", "integer", .."
   a-data-type : t .rule ≡ atom → OneOf (name t) data-types → Terminal t ‘data-type’
+  -- any other atom; yes, no and the names of types "are not PROforma reserved words" and stand where an atom may
   another-atom : t .rule ≡ atom → ¬ OneOf (name t) yes-or-no → ¬ OneOf (name t) data-types → Terminal t ‘other-atom’
   an-integer : t .rule ≡ integer → Terminal t ‘integer’
   a-float : t .rule ≡ float → Terminal t ‘float’

@@ -4,7 +4,9 @@ pub mod Part
 pub mod Operands
 pub mod OneTree
 pub mod Encode
+pub mod EncodeLaws
 pub mod Items
+pub mod ItemLaws
 pub mod CodeRange
 pub mod Kept
 pub mod Narrow

@@ -14,7 +14,8 @@ use Rattle.parts.specs.CodeRange.{operator-code}
 use Rattle.parts.specs.Texts.{moved}
 use Rattle.parts.specs.Part.{size, sizes, number-of}
 use Rattle.parts.specs.Operands.{size-pos}
-use Rattle.parts.specs.Encode.{Part, part, name, name-load, spelling, spellings, encode, encodes, Fits, AllFit, Stands, join}
+use Rattle.parts.specs.Encode.{Part, part, name, name-load, spelling, spellings, encode, encodes, Fits, AllFit, Stands}
+use Rattle.parts.specs.EncodeLaws.{join}
 
 pub record Narrow (r : Part) : Type 0 where
   pub kind : r .kind < 2 ^ 32

@@ -4,6 +4,7 @@ mod codes;
 pub mod names;
 
 pub use codes::Code;
+use numbers::Num;
 ghost use mathlib.Core.Path.{_≡_};
 ghost use Prim.Native.Nat.{_+_, _*_, _-_, _<_};
 ghost use lib.ListN.{getD};
@@ -93,5 +94,5 @@ pub fn back(cells: &[u32], q: usize) -> usize
 pub fn literal(x: u32) -> i64
     ensures { λ r. ⌜ r ≡ literalOf x ⌝ }
 {
-    x as i64 - 2_000_000_000
+    x as i64 - Num::REAL_LIMIT
 }

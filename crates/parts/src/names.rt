@@ -1,12 +1,12 @@
 // Names: two texts that are equal if case is ignored, and the data item that a text names.
-// A text is given by its handle, 64 times its place in the bytes and its length.
-use super::byte;
+// A text is given by its place in the bytes and its length; a byte past the end of the bytes is 0.
 use super::number;
 ghost use mathlib.Core.Path.{_≡_};
+ghost use Prim.Native.Nat.{_+_};
 ghost use lib.ListN.{getD};
 ghost use Rattle.paper_expressions.specs.Bytes.{fold};
 ghost use Rattle.paper_expressions.specs.Laws.Search.{alikeb};
-ghost use Rattle.parts.specs.Texts.{textAt};
+ghost use Rattle.parts.specs.Texts.{cells};
 ghost use Rattle.parts.specs.Items.{Found};
 
 // A to Z as a to z.
@@ -21,41 +21,51 @@ pub fn lower(a: u8) -> u8
     a
 }
 
-fn lower_at(bytes: &[u8], p: usize) -> u8
-    ensures { λ r. ⌜ r ≡ fold (getD (now (bytes .entry)) p 0) ⌝ }
+// The byte `i` of the text from `x` on.
+pub fn at(bytes: &[u8], x: usize, i: usize) -> u8
+    ensures { λ r. ⌜ r ≡ getD (now (bytes .entry)) (x + i) 0 ⌝ }
 {
-    lower(byte(bytes, p))
+    if bytes.len() <= x {
+        return 0;
+    }
+    if bytes.len() - x <= i {
+        return 0;
+    }
+    bytes[x + i]
 }
 
-// Whether two texts are equal if case is ignored.
-pub fn alike(bytes: &[u8], g: usize, h: usize) -> bool
-    ensures { λ r. ⌜ r ≡ alikeb (textAt (now (bytes .entry)) g) (textAt (now (bytes .entry)) h) ⌝ }
+// The same, A to Z as a to z.
+pub fn letter(bytes: &[u8], x: usize, i: usize) -> u8
+    ensures { λ r. ⌜ r ≡ fold (getD (now (bytes .entry)) (x + i) 0) ⌝ }
 {
-    let n = g % 64;
-    if n != h % 64 {
+    lower(at(bytes, x, i))
+}
+
+// Whether the `n` bytes from `x` on and the `m` bytes from `y` on are equal if case is ignored.
+pub fn alike(bytes: &[u8], x: usize, n: usize, y: usize, m: usize) -> bool
+    ensures { λ r. ⌜ r ≡ alikeb (cells (now (bytes .entry)) x n) (cells (now (bytes .entry)) y m) ⌝ }
+{
+    if n != m {
         return false;
     }
-    let mut x = g / 64;
-    let mut y = h / 64;
-    let mut m = n;
-    while 0 < m {
-        if lower_at(bytes, x) != lower_at(bytes, y) {
+    let mut i = 0;
+    while i < n {
+        if letter(bytes, x, i) != letter(bytes, y, i) {
             return false;
         }
-        x += 1;
-        y += 1;
-        m -= 1;
+        i += 1;
     }
     true
 }
 
-// The index of the data item whose name is alike to the text, or how many items there are.
+// The index of the data item whose name is alike to the text with the handle `h`, or how many items there are.
 pub fn find(bytes: &[u8], names: &[u32], h: usize) -> usize
     ensures { λ r. ⌜ Found (now (bytes .entry)) (now (names .entry)) h r ⌝ }
 {
     let mut i = 0;
     while i < names.len() {
-        if alike(bytes, number(names, i), h) {
+        let x = number(names, i);
+        if alike(bytes, x / 64, x % 64, h / 64, h % 64) {
             return i;
         }
         i += 1;

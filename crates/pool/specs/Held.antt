@@ -17,7 +17,8 @@ use Rattle.parts.specs.Codes.{code, kind}
 use Rattle.parts.specs.Texts.{cells, handle, textAt, text-of, literal, moved}
 use Rattle.parts.specs.Part.{table, size, sizes, number-of, operands, OpLoad, Load, Root, Holds, HoldsAll}
 use Rattle.parts.specs.Encode as parts
-use Rattle.parts.specs.Encode.{part, flat, name, name-load, spelling, spellings, encode, encodes, Spelt, spelt-cells, Is, Laid, split, spelt-laid}
+use Rattle.parts.specs.Encode.{part, flat, name, name-load, spelling, spellings, encode, encodes, Spelt, Is, Laid}
+use Rattle.parts.specs.EncodeLaws.{spelt-cells, split, spelt-laid}
 use Rattle.parts.specs.Kept.{HasText}
 use Rattle.pool.specs.Written.{Written, spelt-split}
 use Rattle.pool.specs.Pooled.{Fits, Below, Pooled, Gathers}

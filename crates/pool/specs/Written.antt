@@ -8,7 +8,8 @@ use native.Mathlib.Nat.{not-suc-le-zero}
 use native.Mathlib.Omega.{arith}
 use lib.ListN.{getD, length, set, length-append, length-set}
 use lib.Seq.{getD-set-same, getD-set-other}
-use Rattle.parts.specs.Encode.{Spelt, join}
+use Rattle.parts.specs.Encode.{Spelt}
+use Rattle.parts.specs.EncodeLaws.{join}
 
 -- the cells of l′ from a on are those of s, and the others are those of l
 pub record Written (l l′ : List ℕ) (a : ℕ) (s : List ℕ) : Type 0 where

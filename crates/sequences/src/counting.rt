@@ -3,6 +3,7 @@ ghost use mathlib.Core.Path.{_≡_};
 ghost use mathlib.Core.List.{List as Seq, [], _∷_};
 ghost use Prim.Native.Nat.{ℕ, _≤_};
 ghost use lib.IntN.{pos};
+ghost use Rattle.paper_expressions.specs.Limits.{list-limit};
 ghost use Rattle.paper_expressions.specs.Values.{one};
 ghost use Rattle.paper_expressions.specs.Operators as paper;
 ghost use Rattle.paper_expressions.specs.Laws.Only.{at, nthL};
@@ -16,7 +17,7 @@ use values::Scalar;
 use values::Value;
 
 fn wide_count(n: usize) -> Wide
-    requires { ⌜ n ≤ 16 ⌝ }
+    requires { ⌜ n ≤ list-limit ⌝ }
     ensures { λ r. ⌜ r .z ≡ pos n ⌝ }
 {
     Wide { z: n as i64 }

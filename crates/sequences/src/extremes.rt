@@ -2,6 +2,7 @@
 ghost use mathlib.Core.Path.{_≡_};
 ghost use mathlib.Core.List.{[], _∷_};
 ghost use Prim.Native.Nat.{_<_};
+ghost use Rattle.paper_expressions.specs.Limits.{list-limit};
 ghost use Rattle.paper_expressions.specs.Values.{one, sequence};
 ghost use Rattle.paper_expressions.specs.Operators as paper;
 ghost use Rattle.paper_expressions.specs.Laws.Only.{bestb, extremeF};
@@ -57,7 +58,7 @@ fn unbeaten(bytes: &[u8], e: Extreme, l: List, i: usize) -> bool
 
 // Whether the i-th is known and no element beats it.
 fn best(bytes: &[u8], e: Extreme, l: List, i: usize) -> bool
-    requires { ⌜ (i < 16) × (i < sizeOf l) ⌝ }
+    requires { ⌜ (i < list-limit) × (i < sizeOf l) ⌝ }
     ensures { λ r. ⌜ r ≡ bestb (end e) (meaningL (now (bytes .entry)) l) i ⌝ }
 {
     if values::is_unknown(values::get(l, i)) {

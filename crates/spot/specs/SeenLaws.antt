@@ -12,7 +12,7 @@ use lib.Seq.{getD-append-seam, take-suc}
 use borrow.Author.Tests.{ltb-true, ltb-false, eq-eqb, ne-eqb}
 use Rattle.paper_expressions.specs.Laws.Tests.{two, contra}
 use Rattle.paper_expressions.specs.View.{At, at-first, at-later}
-use Rattle.paper_guideline.specs.Limits.{text-limit}
+use Rattle.paper_guideline.specs.Limits.{guideline-limit}
 use Rattle.paper_guideline.specs.Refusals.{Stage, text-stage, turn, Breach, high-byte, long, Refused}
 use Rattle.spot.specs.Lines.{newline, newlines, Unbroken, Begins, one-more, unbroken-up}
 use Rattle.spot.specs.Seen.{countable, high-at, Describes}
@@ -195,13 +195,13 @@ module _ {t : List ℕ} {s : Seen} (d : Describes t s) where
       (two (ltb q (s .place)))
   least (long l) = d .within
 
-  broken : text-limit < length t → Breach ⊥ t text-stage (s .place)
+  broken : guideline-limit < length t → Breach ⊥ t text-stage (s .place)
   broken h = ⊎-elim
       (λ (e : s .high ≡ true). let w = d .there e in high-byte (is-at t (s .place) (w .0)) (w .1))
       (λ (e : s .high ≡ false). subst (Breach ⊥ t text-stage) (sym (d .none e)) (long h))
       (two (s .high))
 
-  pub refused-long : text-limit < length t → Refused ⊥ t 1 (s .place)
+  pub refused-long : guideline-limit < length t → Refused ⊥ t 1 (s .place)
   refused-long h = record {
     stage = text-stage;
     broken = broken h;

@@ -1,4 +1,5 @@
-// Where a refusal is, for a person: line and column of the place, and how its line is shown.
+// For a person: line and column of a place, how its line is shown, and whether one name is a slip for another.
 pub mod lines;
+pub mod near;
 pub mod seen;
 pub mod show;

@@ -6,7 +6,7 @@ use mathlib.Core.Option.{Option, none, some}
 use mathlib.Core.List.{List}
 use lib.Dec.{ltb}
 use lib.ListN.{length, getD}
-use Rattle.paper_guideline.specs.Limits.{text-limit, token-limit, task-limit, data-item-limit, part-limit, assignment-limit, source-limit}
+use Rattle.paper_guideline.specs.Limits.{guideline-limit, token-limit, task-limit, data-item-limit, part-limit, assignment-limit, source-limit}
 use Rattle.paper_grammar.specs.Nonterminals.{⟨process⟩}
 use Rattle.paper_grammar.specs.Sentence.{Sentence-of, First-bad}
 use Rattle.paper_tokens.specs.Lexical as Lexical
@@ -90,7 +90,7 @@ OverLimits text kinds places lengths t short r =
 
 -- a lent table, of so many cells, is shorter than its least length
 abbrev pub is-short : ℕ → ℕ → ℕ → Bool
-is-short rows cells bytes = ltb rows row-cells || (ltb cells (part-limit * 4) || ltb bytes text-limit)
+is-short rows cells bytes = ltb rows row-cells || (ltb cells (part-limit * 4) || ltb bytes guideline-limit)
 
 abbrev pub Short : List ℕ → Table → Type 0
 Short x t = is-short (length x) (length (t .cells)) (length (t .bytes)) ≡ true

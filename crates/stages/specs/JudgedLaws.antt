@@ -11,7 +11,7 @@ use lib.ListN.{length, getD, replicate}
 use borrow.Author.Tests.{leb-true, leb-false, le-leb, lt-leb, ltb-true, ltb-false, lt-ltb}
 use Rattle.paper_expressions.specs.Laws.Tests.{two}
 use Rattle.paper_expressions.specs.View as View
-use Rattle.paper_guideline.specs.Limits.{text-limit, token-limit, task-limit, data-item-limit, part-limit, assignment-limit, source-limit}
+use Rattle.paper_guideline.specs.Limits.{guideline-limit, token-limit, task-limit, data-item-limit, part-limit, assignment-limit, source-limit}
 use Rattle.paper_tokens.specs.Lexical.{Token, Tokens}
 use Rattle.paper_tokens.specs.Terminals.{Terminals}
 use Rattle.paper_tokens.specs.Laws.TerminalLaws.{terminals-are, terminalF}
@@ -130,8 +130,8 @@ module _ {text kinds places lengths : List ℕ} (l : Lexed text kinds places len
   few-kinds : length kinds ≤ token-limit
   few-kinds = let e = stand-length (l .stand) in let h = few-tokens in omega arith
 
-  short-text : length text ≤ text-limit
-  short-text = at-most (length text) text-limit (λ h. l .passed text-stage (length text) (omega arith) (long h))
+  short-text : length text ≤ guideline-limit
+  short-text = at-most (length text) guideline-limit (λ h. l .passed text-stage (length text) (omega arith) (long h))
 
   given : (g : List TopLevel) → Structure (l .tokens) g → Given (source text kinds places lengths) (l .tokens) g
   given g s = record { stand = l .stand; structure = s; brackets = λ q h. l .passed count-stage q (omega arith) (many-open (l .its) h); few = few-tokens; short = short-text }
@@ -175,13 +175,13 @@ long-enough n m h = at-most m n (λ k. h (lt-ltb n m k))
 record Wide (r c b : ℕ) : Type 0 where
   rows : row-cells ≤ r
   cells : part-limit * 4 ≤ c
-  bytes : text-limit ≤ b
+  bytes : guideline-limit ≤ b
 
 wide : (r c b : ℕ) → ¬ (is-short r c b ≡ true) → Wide r c b
 wide r c b h =
-    let a = neither (ltb r row-cells) (ltb c (part-limit * 4) || ltb b text-limit) h in
-    let d = neither (ltb c (part-limit * 4)) (ltb b text-limit) (a .1) in
-    record { rows = long-enough r row-cells (a .0); cells = long-enough c (part-limit * 4) (d .0); bytes = long-enough b text-limit (d .1) }
+    let a = neither (ltb r row-cells) (ltb c (part-limit * 4) || ltb b guideline-limit) h in
+    let d = neither (ltb c (part-limit * 4)) (ltb b guideline-limit) (a .1) in
+    record { rows = long-enough r row-cells (a .0); cells = long-enough c (part-limit * 4) (d .0); bytes = long-enough b guideline-limit (d .1) }
 
 -- tables that were cleared, which were blank before
 same-empty : {x y : List ℕ} {t u : Table} {z : List ℕ} {v : Table} → length y ≡ length x → length (u .cells) ≡ length (t .cells) → length (u .bytes) ≡ length (t .bytes) → Empty y u z v → Empty x t z v

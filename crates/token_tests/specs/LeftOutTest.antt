@@ -9,8 +9,8 @@ use mathlib.Core.List.{List, [], _∷_, map, List·Memᴰ, List·Memᴰ·head, L
 use native.Mathlib.Nat.{not-suc-le-zero}
 use native.Mathlib.Numerals.{add-one}
 use native.Mathlib.Omega.{arith}
-use lib.Dec.{eqb, leb, ltb}
-use lib.ListN.{getD, List·getD-eq-default}
+use lib.Dec.{eqb, leb, ltb, leb→le}
+use lib.ListN.{length, getD, List·getD-eq-default}
 use borrow.Author.Tests.{eqb-true, eqb-false, eq-eqb, ne-eqb, le-leb, lt-ltb, le-ltb, ltb-true}
 use Rattle.paper_expressions.specs.Laws.Tests.{contra, two, and-l, and-r, every, every-at}
 use Rattle.paper_expressions.specs.Bytes.{bytes}
@@ -18,11 +18,14 @@ use Rattle.paper_expressions.specs.Laws.Search.{sameb, same-reflects, Reflects,
 use Rattle.paper_tokens.specs.Tokens.{“open”, ‘data-type’, ‘float’, reserved-count}
 use Rattle.paper_grammar.specs.Laws.Ll.{isIn}
 use Rattle.paper_guideline.specs.Laws.StructureLaws.{in-list}
-use Rattle.paper_tokens.specs.Lexical.{Rule, atom, Matches, Token, inner, HasExponent}
+use Rattle.paper_tokens.specs.Lexical.{Rule, atom, Matches, Token, part, inner, HasExponent}
 use Rattle.paper_tokens.specs.Terminals.{OneOf, name, Terminal, a-reserved-word, yes-no, a-data-type, another-atom, an-integer, a-float, a-string}
 use Rattle.paper_tokens.specs.Laws.TerminalLaws.{one-terminal, reserved-below}
 use Rattle.paper_guideline.specs.LeftOut.{left-out-words, left-out-functors, LeftOut, left-out-word, left-out-functor, left-out-exponent, further-on}
 use Rattle.parts.specs.Texts.{cells}
+use Rattle.words.specs.Entries.{Same}
+use Rattle.terminals.specs.Every.{at-below}
+use Rattle.leaves.specs.Cells.{part-cells}
 use Rattle.leaves.specs.Leaf.{atom-range}
 use Rattle.leaves.specs.Source.{Source, Here, Stand, at-end, at-token}
 use Rattle.token_tests.specs.Exponent.{has-exponent, plain-none, none-plain}
@@ -30,39 +33,15 @@ use Rattle.token_tests.specs.Walk.{Stands, of-token, of-bytes, Decides}
 
 -- ---- the words
 
--- by terminal: a 1 (49) for a word that is left out
-unfoldable pub word-table : List ℕ
-word-table = bytes "10000000100000011100111010001010001010011100100110000110100000010001010000000000101100000000000000000"
+is-word : (k : ℕ) → isIn k left-out-words ≡ true → List·Memᴰ k left-out-words
+is-word k h = in-list left-out-words k h
 
-abbrev pub listed : ℕ → Bool
-listed k = eqb (getD word-table k 0) 49
-
--- f holds of each number below n
-abbrev each-below : ℕ → (ℕ → Bool) → Bool
-each-below zero f = true
-each-below (suc n) f = f n && each-below n f
-
-below-at : (n : ℕ) (f : ℕ → Bool) → each-below n f ≡ true → (k : ℕ) → k < n → f k ≡ true
-below-at zero f h k l = absurd (not-suc-le-zero l)
-below-at (suc n) f h k l = ⊎-elim
-    (λ (e : eqb k n ≡ true). subst (λ (j : ℕ). f j ≡ true) (sym (eqb-true k n e)) (and-l (f n) (each-below n f) h))
-    (λ (e : eqb k n ≡ false). let d = eqb-false k n e in below-at n f (and-r (f n) (each-below n f) h) k (omega arith))
-    (two (eqb k n))
-
-only-words : each-below reserved-count (λ k. cond (listed k) (isIn k left-out-words) true) ≡ true
-unfolding word-table left-out-words
-only-words = refl
-
-is-word : (k : ℕ) → k < reserved-count → listed k ≡ true → List·Memᴰ k left-out-words
-is-word k l h =
-    in-list left-out-words k (rw h at (below-at reserved-count (λ k. cond (listed k) (isIn k left-out-words) true) only-words k l))
-
-all-words : every (λ k. ltb k reserved-count && listed k) left-out-words ≡ true
-unfolding word-table left-out-words
+all-words : every (λ k. ltb k reserved-count && isIn k left-out-words) left-out-words ≡ true
+unfolding left-out-words
 all-words = refl
 
-word-is : (k : ℕ) → List·Memᴰ k left-out-words → (ltb k reserved-count && listed k) ≡ true
-word-is k m = every-at (λ k. ltb k reserved-count && listed k) left-out-words all-words k m
+word-is : (k : ℕ) → List·Memᴰ k left-out-words → (ltb k reserved-count && isIn k left-out-words) ≡ true
+word-is k m = every-at (λ k. ltb k reserved-count && isIn k left-out-words) left-out-words all-words k m
 
 -- ---- the functors
 
@@ -125,13 +104,32 @@ pub none-left : (w : List ℕ) (i n : ℕ) → n ≤ 0 → named-from w i n ≡ 
 none-left w i zero h = refl
 none-left w i (suc n) h = absurd (not-suc-le-zero h)
 
+-- each row lies within the names
+pub rows-fit : (i : ℕ) → i < 16 → i * 16 + getD name-lengths i 0 ≤ length name-bytes
+unfolding name-bytes name-lengths
+rows-fit i h = leb→le (i * 16 + getD name-lengths i 0) 256 (at-below (λ k. leb (k * 16 + getD name-lengths k 0) 256) 16 tt i h)
+
+same-is : {v w : List ℕ} (r : Bool) → Same v w r → r ≡ sameb w v
+same-is {v} {w} true s = sym (reflects-true (same-reflects w v) (sym (s .yes refl)))
+same-is {v} {w} false s = ⊎-elim
+    (λ (e : sameb w v ≡ true). absurd (s .no refl (sym (true-reflects (same-reflects w v) e))))
+    (λ (e : sameb w v ≡ false). sym e)
+    (two (sameb w v))
+
+-- what stands in a text is the name of a row
+pub same-name : (t : List ℕ) (at n i : ℕ) (r : Bool) → at + n ≤ length t → i < 16 → Same (part t at n) (part name-bytes (i * 16) (getD name-lengths i 0)) r
+    → r ≡ sameb (name-at i) (cells t at n)
+same-name t at n i r h l s =
+    same-is r s ∙ ap (sameb (part name-bytes (i * 16) (getD name-lengths i 0))) (part-cells t at n h)
+    ∙ ap (λ (w : List ℕ). sameb w (cells t at n)) (part-cells name-bytes (i * 16) (getD name-lengths i 0) (rows-fit i l))
+
 -- ---- one token
 
 -- a token of terminal k and these bytes, with the terminal next behind it
 abbrev pub left-out-test : ℕ → ℕ → List ℕ → Bool
 left-out-test k next w =
     cond (eqb k ‘float’) (has-exponent w)
-    (cond (ltb k reserved-count) (listed k)
+    (cond (ltb k reserved-count) (isIn k left-out-words)
     (cond (leb k ‘data-type’) (cond (eqb next “open”) (named-from (inner w) 0 16) false) false))
 
 -- the token i of the columns
@@ -163,7 +161,7 @@ told : {t : Token} {ts : List Token} {k : ℕ} (next : ℕ) → Terminal t k →
     → left-out-test k next (t .bytes) ≡ true → LeftOut (t ∷ ts) (t .place)
 told {k = k} next (a-reserved-word e r) o h =
     let b = reserved-below r in
-    left-out-word (a-reserved-word e r) (is-word k b (rw (ne-eqb k ‘float’ (λ z. omega arith), lt-ltb k reserved-count b) at h))
+    left-out-word (a-reserved-word e r) (is-word k (rw (ne-eqb k ‘float’ (λ z. omega arith), lt-ltb k reserved-count b) at h))
 told next (yes-no e x) o h = named-functor next e o h
 told next (a-data-type e x) o h = named-functor next e o h
 told next (another-atom e n m) o h = named-functor next e o h
@@ -174,9 +172,9 @@ told next (a-string e) o h = contra h
 tells-word : (k next : ℕ) (w : List ℕ) → List·Memᴰ k left-out-words → left-out-test k next w ≡ true
 tells-word k next w m =
     let h = word-is k m in
-    let b = and-l (ltb k reserved-count) (listed k) h in
+    let b = and-l (ltb k reserved-count) (isIn k left-out-words) h in
     let l = ltb-true k reserved-count b in
-    rw (ne-eqb k ‘float’ (λ z. omega arith), b) (and-r (ltb k reserved-count) (listed k) h)
+    rw (ne-eqb k ‘float’ (λ z. omega arith), b) (and-r (ltb k reserved-count) (isIn k left-out-words) h)
 
 tells-functor : (k next : ℕ) (w : List ℕ) → 95 ≤ k → k ≤ 97 → next ≡ “open” → OneOf (inner w) left-out-functors → left-out-test k next w ≡ true
 tells-functor k next w l u e o =

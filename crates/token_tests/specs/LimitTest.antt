@@ -27,6 +27,8 @@ use Rattle.leaves.specs.Leaf.{atom-range}
 use Rattle.leaves.specs.Numbers
 use Numbers.{most, grown, digits, fixed, all-digits, all-fixed, digits-are, fixed-is, whole-is, whole-plain, thousandths-is, thousandths-plain, size-of-negative}
 use Rattle.leaves.specs.Source.{Source, Here}
+use Rattle.token_tests.specs.declared.sizes.Limit.{Limit}
+use Rattle.token_tests.specs.declared.sizes.Limit.the-variants.{Within, Text, Integer, Real, Decimals}
 use Rattle.token_tests.specs.Reply.{OverLimit}
 use Rattle.token_tests.specs.Walk.{or-right, of-token, of-bytes, Decides}
 
@@ -36,16 +38,62 @@ abbrev pub unsigned : List ℕ → List ℕ
 unsigned [] = []
 unsigned (b ∷ w) = cond (eqb b 45) w (b ∷ w)
 
--- a float is too large, or too long behind its point
-abbrev pub large : List ℕ → Bool
+abbrev pub pick : Bool → Limit → Limit → Limit
+pick true x y = x
+pick false x y = y
+
+abbrev pub integer-limit-of : List ℕ → Limit
+integer-limit-of w = pick (ltb integer-limit (digits 0 (unsigned w))) Integer Within
+
+-- too large, or too long behind its point
+abbrev pub float-limit : List ℕ → Limit
+float-limit w = pick (ltb real-limit (fixed 0 (unsigned w))) Real (pick (ltb decimal-limit (length (behind-point w))) Decimals Within)
+
+abbrev pub text-limit-of : List ℕ → Limit
+text-limit-of w = pick (ltb Values.text-limit (length (inner w))) Text Within
+
+-- the limit that a token of terminal k and these bytes is past
+abbrev pub limit-of : ℕ → List ℕ → Limit
+limit-of k w =
+    pick (eqb k ‘integer’) (integer-limit-of w)
+    (pick (eqb k ‘float’) (float-limit w)
+    (pick (ltb k reserved-count) Within (text-limit-of w)))
+
+abbrev pub exceeded : Limit → Bool
+exceeded Within = false
+exceeded Text = true
+exceeded Integer = true
+exceeded Real = true
+exceeded Decimals = true
+
+-- a float is past a limit
+abbrev large : List ℕ → Bool
 large w = ltb real-limit (fixed 0 (unsigned w)) || ltb decimal-limit (length (behind-point w))
 
--- a token of terminal k and these bytes
+-- any token is
 abbrev pub limit-test : ℕ → List ℕ → Bool
 limit-test k w =
     cond (eqb k ‘integer’) (ltb integer-limit (digits 0 (unsigned w)))
     (cond (eqb k ‘float’) (large w)
     (cond (ltb k reserved-count) false (ltb Values.text-limit (length (inner w)))))
+
+pub exceeds-is : (k : ℕ) (w : List ℕ) → exceeded (limit-of k w) ≡ limit-test k w
+exceeds-is k w = by (eqb k ‘integer’) (eqb k ‘float’) (ltb k reserved-count)
+  where
+    one : (b : Bool) (l : Limit) → exceeded l ≡ true → exceeded (pick b l Within) ≡ b
+    one true l e = e
+    one false l e = refl
+
+    either : (b d : Bool) → exceeded (pick b Real (pick d Decimals Within)) ≡ (b || d)
+    either true d = refl
+    either false d = one d Decimals refl
+
+    by : (i f r : Bool) → exceeded (pick i (integer-limit-of w) (pick f (float-limit w) (pick r Within (text-limit-of w))))
+        ≡ cond i (ltb integer-limit (digits 0 (unsigned w))) (cond f (large w) (cond r false (ltb Values.text-limit (length (inner w)))))
+    by true f r = one (ltb integer-limit (digits 0 (unsigned w))) Integer refl
+    by false true r = either (ltb real-limit (fixed 0 (unsigned w))) (ltb decimal-limit (length (behind-point w)))
+    by false false true = refl
+    by false false false = one (ltb Values.text-limit (length (inner w))) Text refl
 
 -- the token i of the columns
 abbrev pub past-limit-at : Source → ℕ → Bool

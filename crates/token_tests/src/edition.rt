@@ -1,70 +1,52 @@
 // Whether one token names something that the first edition leaves out: a word, a functor or an exponent.
 use leaves::names::inside;
 use parts::byte;
+use terminals::Terminal;
+use words::stands;
 ghost use mathlib.Core.Path.{_≡_};
 ghost use Prim.Native.Nat.{_+_, _≤_, _<_};
-ghost use lib.ListN.{length, getD};
-ghost use Rattle.paper_expressions.specs.Laws.Search.{sameb};
+ghost use lib.ListN.{length};
 ghost use Rattle.parts.specs.Texts.{cells};
 ghost use Rattle.token_tests.specs.Exponent.{begins-exponent, has-exponent};
-ghost use Rattle.token_tests.specs.LeftOutTest.{listed, name-bytes, name-at, named-from, left-out-test};
+ghost use Rattle.paper_grammar.specs.Laws.Ll.{isIn};
+ghost use Rattle.paper_guideline.specs.LeftOut.{left-out-words};
+ghost use Rattle.token_tests.specs.LeftOutTest.{name-bytes, name-lengths, named-from, left-out-test};
 
-// Terminals: atoms are the three up to DATA_TYPE, and the reserved words and symbols come before them.
-const OPEN: u8 = 76;
-
-const OTHER_ATOM: u8 = 95;
-
-const DATA_TYPE: u8 = 97;
-
-const FLOAT: u8 = 99;
-// By terminal, from 0 to 100: 1 for the reserved words and symbols that are left out.
-const WORDS: [u8; 101] =
-    *b"10000000100000011100111010001010001010011100100110000110100000010001010000000000101100000000000000000";
 // The functors that are left out, 16 bytes each.
 const NAMES: [u8; 256] =
     *b"in_progress_timediscarded_time  completed_time  union           diff            intersect       abs             exp             ln              sin             cos             tan             asin            acos            atan            random          ";
 
 const LENGTHS: [usize; 16] = [16, 14, 14, 5, 4, 9, 3, 3, 2, 3, 3, 3, 4, 4, 4, 6];
 
-fn word(k: u8) -> bool
-    ensures { λ r. ⌜ r ≡ listed k ⌝ }
+// Whether a terminal is a reserved word or symbol that is left out.
+pub fn is_word(k: u8) -> bool
+    ensures { λ r. ⌜ r ≡ isIn k left-out-words ⌝ }
 {
-    let i = k as usize;
-    if i < 101 {
-        return WORDS[i] == b'1';
+    match k {
+        Terminal::DIRECTIVES | Terminal::TASK | Terminal::DECISION | Terminal::PROCEDURE => true,
+        Terminal::CONTEXT | Terminal::GOAL | Terminal::ABORT | Terminal::PARAMETERS => true,
+        Terminal::AUTONOMOUS | Terminal::OPTIONAL | Terminal::LTWH | Terminal::CYCLE_UNTIL => true,
+        Terminal::NUMBER_OF_CYCLES | Terminal::CYCLE_REPEAT | Terminal::PARAM_VALUE => true,
+        Terminal::RANGE | Terminal::DEFAULT_VALUE | Terminal::TRUE_VALUE => true,
+        Terminal::FALSE_VALUE | Terminal::MANDATORY_VALIDATION | Terminal::DERIVATION => true,
+        Terminal::UNIT | Terminal::RESULT_OF | Terminal::NETSUPPORT => true,
+        Terminal::NETSUPPORT_UPPER | Terminal::HASH => true,
+        Terminal::PLUS_PLUS | Terminal::COLON => true,
+        _ => false,
     }
-    false
 }
 
-fn name_byte(i: usize) -> u8
-    ensures { λ r. ⌜ r ≡ getD name-bytes i 0 ⌝ }
+// Both tables are made once for a name, and handed on.
+fn names() -> [u8; 256]
+    ensures { λ r. ⌜ r ≡ name-bytes ⌝ }
 {
-    if i < 256 {
-        return NAMES[i];
-    }
-    0
+    NAMES
 }
 
-// Whether a text is the name in row `i`.
-fn is_name(text: &[u8], at: usize, n: usize, i: usize) -> bool
-    requires { ⌜ (at + n ≤ length (now text)) × (i < 16) ⌝ }
-    ensures { λ r. ⌜ r ≡ sameb (name-at i) (cells (now (text .entry)) at n) ⌝ }
+fn lengths() -> [usize; 16]
+    ensures { λ r. ⌜ r ≡ name-lengths ⌝ }
 {
-    if n != LENGTHS[i] {
-        return false;
-    }
-    let mut x = at;
-    let mut y = i * 16;
-    let mut m = n;
-    while 0 < m {
-        if name_byte(y) != byte(text, x) {
-            return false;
-        }
-        x += 1;
-        y += 1;
-        m -= 1;
-    }
-    true
+    LENGTHS
 }
 
 // Whether a text is the name of a functor that is left out.
@@ -72,9 +54,11 @@ fn functor(text: &[u8], at: usize, n: usize) -> bool
     requires { ⌜ at + n ≤ length (now text) ⌝ }
     ensures { λ r. ⌜ r ≡ named-from (cells (now (text .entry)) at n) 0 16 ⌝ }
 {
+    let names = names();
+    let lengths = lengths();
     let mut i = 0;
     while i < 16 {
-        if is_name(text, at, n, i) {
+        if stands(text, at, n, &names, i * 16, lengths[i]) {
             return true;
         }
         i += 1;
@@ -114,16 +98,16 @@ pub fn is_left_out(text: &[u8], k: u8, next: u8, at: usize, n: usize) -> bool
     requires { ⌜ at + n ≤ length (now text) ⌝ }
     ensures { λ r. ⌜ r ≡ left-out-test k next (cells (now (text .entry)) at n) ⌝ }
 {
-    if k == FLOAT {
+    if k == Terminal::FLOAT {
         return exponent(text, at, n);
     }
-    if k < OTHER_ATOM {
-        return word(k);
+    if k < Terminal::OTHER_ATOM {
+        return is_word(k);
     }
-    if DATA_TYPE < k {
+    if Terminal::DATA_TYPE < k {
         return false;
     }
-    if next != OPEN {
+    if next != Terminal::LEFT_PARENTHESIS {
         return false;
     }
     let s = inside(text, at, n);

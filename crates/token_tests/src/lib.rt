@@ -1,21 +1,24 @@
 // The tests of load on single tokens: the first that names something left out (refusal 10), the first past a limit (refusal 6).
-mod edition;
-mod sizes;
+pub mod edition;
+pub mod sizes;
 
 use edition::is_left_out;
 use leaves::cell;
 use leaves::fits;
 use parts::byte;
+use sizes::Limit;
 use sizes::is_past_limit;
+use sizes::past;
 ghost use mathlib.Core.Path.{_≡_};
 ghost use mathlib.Core.Bool.{true, false};
-ghost use Prim.Native.Nat.{_<_};
+ghost use Prim.Native.Nat.{_+_, _≤_, _<_};
 ghost use lib.ListN.{length};
 ghost use Rattle.paper_guideline.specs.LeftOut.{LeftOut};
 ghost use Rattle.leaves.specs.Source.{source};
 ghost use Rattle.token_tests.specs.Reply.{First, OverLimit};
 ghost use Rattle.token_tests.specs.LeftOutTest.{left-out-at};
-ghost use Rattle.token_tests.specs.LimitTest.{past-limit-at};
+ghost use Rattle.token_tests.specs.LimitTest.{limit-of, past-limit-at};
+ghost use Rattle.parts.specs.Texts.{cells};
 
 // The place of a token, or that there is none.
 pub enum Found {
@@ -74,4 +77,14 @@ pub fn past_limit(text: &[u8], kinds: &[u8], places: &[usize], lengths: &[usize]
         i += 1;
     }
     Found::Nowhere
+}
+
+// Which limit the token of terminal `k` and `n` bytes at a place is past, for a person.
+pub fn limit_at(text: &[u8], k: u8, at: usize, n: usize) -> Limit
+    ensures { λ r. ⌜ (at + n ≤ length (now (text .entry)) → r ≡ limit-of k (cells (now (text .entry)) at n)) × (length (now (text .entry)) < at + n → r ≡ Limit.Within) ⌝ }
+{
+    if fits(text, at, n) {
+        return past(text, k, at, n);
+    }
+    Limit::Within
 }

@@ -4,29 +4,29 @@ use leaves::names::inside;
 use leaves::numbers::digits;
 use leaves::numbers::fixed;
 use limits::Literal;
+use numbers::Num;
 use parts::byte;
+use terminals::Terminal;
+use values::Handle;
 ghost use mathlib.Core.Path.{_≡_};
 ghost use Prim.Native.Nat.{_+_, _≤_, _<_};
-ghost use lib.Dec.{ltb};
 ghost use lib.ListN.{length};
-ghost use Rattle.paper_expressions.specs.Limits.{integer-limit};
 ghost use Rattle.paper_tokens.specs.Literals.{behind-point};
 ghost use Rattle.parts.specs.Texts.{cells};
-ghost use Rattle.leaves.specs.Numbers as N;
-ghost use Rattle.token_tests.specs.LimitTest.{unsigned as unsignedOf, large, limit-test};
+ghost use Rattle.token_tests.specs.LimitTest.{unsigned as unsignedOf, integer-limit-of, float-limit, text-limit-of, limit-of, limit-test};
 
-// Terminals; names and texts are the others from OTHER_ATOM on.
-const OTHER_ATOM: u8 = 95;
+// The limit that a token is past.
+pub enum Limit {
+    Within,
+    Text,
+    Integer,
+    Real,
+    Decimals,
+}
 
-const INTEGER: u8 = 98;
+const INTEGER_LIMIT: u32 = Num::INTEGER_LIMIT as u32;
 
-const FLOAT: u8 = 99;
-
-const INTEGER_LIMIT: u32 = 2_000_000;
-// In thousandths.
-const REAL_LIMIT: u32 = 2_000_000_000;
-
-const TEXT_LIMIT: usize = 48;
+const REAL_LIMIT: u32 = Num::REAL_LIMIT as u32;
 
 // A number without its sign.
 fn unsigned(text: &[u8], at: usize, n: usize) -> Span
@@ -62,40 +62,70 @@ fn behind(text: &[u8], at: usize, n: usize) -> usize
     0
 }
 
-// Whether a float is too large, or has too many digits behind the point.
-fn large_float(text: &[u8], at: usize, n: usize) -> bool
+// Which of its limits a float is past, which `n` bytes write.
+fn of_float(text: &[u8], at: usize, n: usize) -> Limit
     requires { ⌜ at + n ≤ length (now text) ⌝ }
-    ensures { λ r. ⌜ r ≡ large (cells (now (text .entry)) at n) ⌝ }
+    ensures { λ r. ⌜ r ≡ float-limit (cells (now (text .entry)) at n) ⌝ }
 {
     let s = unsigned(text, at, n);
     if REAL_LIMIT < fixed(text, s.at, s.n) {
-        return true;
+        return Limit::Real;
     }
-    Literal::DECIMALS < behind(text, at, n)
+    if Literal::DECIMALS < behind(text, at, n) {
+        return Limit::Decimals;
+    }
+    Limit::Within
 }
 
-fn large_integer(text: &[u8], at: usize, n: usize) -> bool
+fn of_integer(text: &[u8], at: usize, n: usize) -> Limit
     requires { ⌜ at + n ≤ length (now text) ⌝ }
-    ensures { λ r. ⌜ r ≡ ltb integer-limit (N.digits 0 (unsignedOf (cells (now (text .entry)) at n))) ⌝ }
+    ensures { λ r. ⌜ r ≡ integer-limit-of (cells (now (text .entry)) at n) ⌝ }
 {
     let s = unsigned(text, at, n);
-    INTEGER_LIMIT < digits(text, s.at, s.n)
+    if INTEGER_LIMIT < digits(text, s.at, s.n) {
+        return Limit::Integer;
+    }
+    Limit::Within
 }
 
-// Whether a token of terminal `k` is past a limit.
+fn of_text(text: &[u8], at: usize, n: usize) -> Limit
+    requires { ⌜ at + n ≤ length (now text) ⌝ }
+    ensures { λ r. ⌜ r ≡ text-limit-of (cells (now (text .entry)) at n) ⌝ }
+{
+    let s = inside(text, at, n);
+    if Handle::TEXT_LIMIT < s.n {
+        return Limit::Text;
+    }
+    Limit::Within
+}
+
+// The limit that a token of terminal `k` is past.
+pub fn past(text: &[u8], k: u8, at: usize, n: usize) -> Limit
+    requires { ⌜ at + n ≤ length (now text) ⌝ }
+    ensures { λ r. ⌜ r ≡ limit-of k (cells (now (text .entry)) at n) ⌝ }
+{
+    if k == Terminal::INTEGER {
+        return of_integer(text, at, n);
+    }
+    if k == Terminal::FLOAT {
+        return of_float(text, at, n);
+    }
+    if k < Terminal::OTHER_ATOM {
+        return Limit::Within;
+    }
+    of_text(text, at, n)
+}
+
+// Whether it is past one.
 pub fn is_past_limit(text: &[u8], k: u8, at: usize, n: usize) -> bool
     requires { ⌜ at + n ≤ length (now text) ⌝ }
     ensures { λ r. ⌜ r ≡ limit-test k (cells (now (text .entry)) at n) ⌝ }
 {
-    if k == INTEGER {
-        return large_integer(text, at, n);
+    match past(text, k, at, n) {
+        Limit::Within => false,
+        Limit::Text => true,
+        Limit::Integer => true,
+        Limit::Real => true,
+        Limit::Decimals => true,
     }
-    if k == FLOAT {
-        return large_float(text, at, n);
-    }
-    if k < OTHER_ATOM {
-        return false;
-    }
-    let s = inside(text, at, n);
-    TEXT_LIMIT < s.n
 }

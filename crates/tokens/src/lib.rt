@@ -10,6 +10,7 @@ use lexer::Token;
 use limits::Brackets;
 use limits::Guideline;
 use limits::TokenList;
+use terminals::Terminal;
 
 // How many tokens there are, in the columns; or number and place of the refusal; or that a column has fewer cells than a text may have tokens.
 pub enum Read {
@@ -86,7 +87,7 @@ fn bracket(b: Open, kind: u8, place: usize, end: usize) -> Open
     let count = b.count;
     let bad = b.bad;
     match kind {
-        76 | 78 => {
+        Terminal::LEFT_PARENTHESIS | Terminal::LEFT_BRACKET => {
             if Brackets::LIMIT <= count {
                 if bad == end {
                     return Open {
@@ -101,7 +102,7 @@ fn bracket(b: Open, kind: u8, place: usize, end: usize) -> Open
                 bad: bad,
             }
         }
-        77 | 79 => {
+        Terminal::RIGHT_PARENTHESIS | Terminal::RIGHT_BRACKET => {
             if count == 0 {
                 return b;
             }
@@ -129,7 +130,7 @@ fn put(
     ensures { λ _. ⌜ now (lengths .exit) ≡ stored (now (lengths .entry)) n (token .kind) (token .len) ⌝ }
 {
     let kind = token.kind;
-    if Token::STRING < kind {
+    if Terminal::STRING < kind {
         return n;
     }
     if n < TokenList::LIMIT {

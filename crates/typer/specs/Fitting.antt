@@ -13,7 +13,8 @@ use Rattle.paper_expressions.specs.Expressions.{Expr, HasType}
 use Rattle.paper_expressions.specs.Laws.Typing.{one-type}
 use Rattle.paper_expressions.specs.Laws.Search.{Reflects, of-yes, of-no, reflects-iff, at-one}
 use Rattle.parts.specs.Part.{Table, Ends, Within}
-use Rattle.parts.specs.Items.{Items, at-index, index-of}
+use Rattle.parts.specs.Items.{Items}
+use Rattle.parts.specs.ItemLaws.{at-index, index-of}
 use Rattle.typer.specs.declared.fitting.Role.{Role}
 use Rattle.typer.specs.declared.fitting.Role.the-variants.{Condition, Wording, Assigned}
 use Rattle.resolution.specs.Letters.{letter, letter-reflects, Outcome, is, none}

@@ -14,7 +14,8 @@ use Rattle.parts.specs.Codes.{kind, declared-code}
 use Rattle.parts.specs.CodeRange.{operator-code}
 use Rattle.parts.specs.Texts.{textAt}
 use Rattle.parts.specs.Part.{Load}
-use Rattle.parts.specs.Items.{Items, Found, resolved, unresolved}
+use Rattle.parts.specs.Items.{Items, Found}
+use Rattle.parts.specs.ItemLaws.{resolved, unresolved}
 use Rattle.resolution.specs.Letters.{letter, Outcome, is, as-is}
 
 -- 4.3, by the number of the declared type

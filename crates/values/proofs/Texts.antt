@@ -2,21 +2,21 @@
 use mathlib.Core.Path.{_≡_, refl, sym, ap, _∙_}
 use mathlib.Core.Bool.{Bool, true, false, cond}
 use mathlib.Core.List.{List, [], _∷_}
-use Prim.Native.Nat.{ℕ, suc, _+_, _-_, _≤_, _<_}
+use Prim.Native.Nat.{ℕ, zero, suc, _+_, _≤_, _<_}
+use native.Mathlib.Nat.{not-suc-le-zero}
 use native.Mathlib.Numerals.{add-one}
 use native.Mathlib.Omega.{arith}
-use lib.ListN.{getD, length, take, drop, drop-of-length-le, length-drop}
-use lib.Seq.{drop-cons, drop-length, take-all, take-nil}
+use lib.ListN.{getD, length, drop, drop-of-length-le}
+use lib.Seq.{drop-cons}
 use lib.Dec.{ltb}
 use borrow.Author.Tests.{lt-ltb, le-ltb}
 use Rattle.paper_expressions.specs.Bytes.{fold, folded}
 use Rattle.paper_expressions.specs.Operators as paper
-use Rattle.paper_expressions.specs.Laws.Compare.{orderT, byte, three, OrderT, spelled, greaterT, lessT, sameT}
-use Rattle.paper_expressions.specs.Laws.Search.{sameb, alikeb, reflects-true, reflects-false, same-reflects, no-clash}
+use Rattle.paper_expressions.specs.Laws.Compare.{orderT, byte, three}
 use Rattle.paper_expressions.specs.Clauses.{Clause}
 use Rattle.numbers.specs.Signs.{signed, verdict}
 use Rattle.numbers.specs.declared.sign.Sign.the-variants.{Greater, Less, Equal}
-use Rattle.values.specs.Meaning.{levelb}
+use Rattle.parts.specs.Texts.{cells}
 
 -- the order is settled from i on
 abbrev pub From : List ℕ → List ℕ → ℕ → Type 0
@@ -69,22 +69,12 @@ told a b c (x ∷ s) (y ∷ t) = go (ltb y x) (ltb x y) (told a b c s t)
     go false true h = refl
     go false false h = h
 
--- alike where the order is level
-pub alike-level : (s t : List ℕ) → levelb (signed (orderT (folded s) (folded t))) ≡ alikeb s t
-alike-level s t = go (spelled (folded s) (folded t))
-  where
-    go : OrderT (folded s) (folded t) → levelb (signed (orderT (folded s) (folded t))) ≡ alikeb s t
-    go (OrderT.greater h) =
-        ap (λ (x : paper.Sign). levelb (signed x)) (greaterT h) ∙ sym (reflects-false (same-reflects (folded s) (folded t)) (λ e. no-clash (cc (sameT e, greaterT h))))
-    go (OrderT.less h) =
-        ap (λ (x : paper.Sign). levelb (signed x)) (lessT h) ∙ sym (reflects-false (same-reflects (folded s) (folded t)) (λ e. no-clash (cc (sameT e, lessT h))))
-    go (OrderT.equal h) =
-        ap (λ (x : paper.Sign). levelb (signed x)) (sameT h) ∙ sym (reflects-true (same-reflects (folded s) (folded t)) h)
+-- a text of n bytes from the place x on
+pub text-long : (b : List ℕ) (x n : ℕ) → length (cells b x n) ≡ n
+text-long b x zero = refl
+text-long b x (suc n) = ap suc (text-long b (suc x) n)
 
--- a part that runs past the end is all that is left
-pub cut-short : (bs : List ℕ) (at len : ℕ) → length bs - at ≤ len → take (length bs - at) (drop at bs) ≡ take len (drop at bs)
-cut-short bs at len h =
-    take-all (length bs - at) (drop at bs) (let k = length-drop at bs in omega arith) ∙ sym (take-all len (drop at bs) (let k = length-drop at bs in omega arith))
-
-pub past : (bs : List ℕ) (at len : ℕ) → length bs < at → take (length bs - length bs) (drop (length bs) bs) ≡ take len (drop at bs)
-past bs at len h = rw (drop-of-length-le bs (let k : length bs ≤ at = omega arith in k), drop-length bs) (take-nil (length bs - length bs) ∙ sym (take-nil len))
+pub text-byte : (b : List ℕ) (x n i : ℕ) → i < n → getD (cells b x n) i 0 ≡ getD b (x + i) 0
+text-byte b x zero i h = absurd (not-suc-le-zero h)
+text-byte b x (suc n) zero h = ap (λ (k : ℕ). getD b k 0) (omega arith)
+text-byte b x (suc n) (suc i) h = text-byte b (suc x) n i (omega arith) ∙ ap (λ (k : ℕ). getD b k 0) (omega arith)

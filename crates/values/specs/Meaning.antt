@@ -2,12 +2,13 @@
 use mathlib.Core.Path.{_≡_}
 use mathlib.Core.Bool.{Bool, true, false, cond}
 use mathlib.Core.List.{List, [], _∷_, _++_, map}
-use Prim.Native.Nat.{ℕ, _+_}
+use Prim.Native.Nat.{ℕ, _+_, _/_, _%_}
 use lib.IntN.{ℤ, natAbs}
 use lib.Dec.{leb, eqb}
-use lib.ListN.{getD, length, take, drop, set}
+use lib.ListN.{getD, length, take, set}
 use Rattle.paper_expressions.specs.Limits.{integer-limit, real-limit}
 use Rattle.paper_expressions.specs.Values as paper
+use Rattle.parts.specs.Texts.{cells}
 use Rattle.numbers.specs.declared.sign.Sign as S
 use Rattle.numbers.specs.declared.sign.Sign.the-variants.{Greater, Less, Equal, Unfit}
 use Rattle.numbers.specs.declared.number.Num.{Num}
@@ -20,8 +21,13 @@ use Rattle.values.specs.declared.value.Value.{Value}
 
 -- ---- what a value means, where bs are the lent bytes
 
+-- the bytes of a text; one past the end is 0
 abbrev pub bytesOf : List ℕ → Handle → List ℕ
-bytesOf bs h = take (h .len) (drop (h .at) bs)
+bytesOf bs h = cells bs (h .at) (h .len)
+
+-- a text by its number
+abbrev pub handleOf : ℕ → Handle
+handleOf x = record { at = x / 64; len = x % 64 }
 
 abbrev pub meaning : List ℕ → Scalar → paper.Scalar
 meaning bs Unknown = paper.unknown

@@ -37,7 +37,7 @@ pub fn empty() -> List
 }
 
 pub fn size(l: List) -> usize
-    ensures { λ r. ⌜ (r ≡ sizeOf l) × (r ≤ 16) × (r ≤ l .n) ⌝ }
+    ensures { λ r. ⌜ (r ≡ sizeOf l) × (r ≤ list-limit) × (r ≤ l .n) ⌝ }
 {
     let n = l.n;
     if n < List::LIST_LIMIT {
@@ -48,7 +48,7 @@ pub fn size(l: List) -> usize
 }
 
 pub fn get(l: List, i: usize) -> Scalar
-    requires { ⌜ i < 16 ⌝ }
+    requires { ⌜ i < list-limit ⌝ }
     ensures { λ r. ⌜ r ≡ at (l .items) i ⌝ }
 {
     let c = l.items[i];
@@ -57,7 +57,7 @@ pub fn get(l: List, i: usize) -> Scalar
 
 // The list with s in the place of its i-th.
 pub fn put(l: List, i: usize, s: Scalar) -> List
-    requires { ⌜ i < 16 ⌝ }
+    requires { ⌜ i < list-limit ⌝ }
     ensures { λ r. ⌜ Stored l i s r ⌝ }
 {
     let mut items = l.items;
@@ -70,7 +70,7 @@ pub fn put(l: List, i: usize, s: Scalar) -> List
 
 // The list with s after its last.
 pub fn push(l: List, s: Scalar) -> List
-    requires { ⌜ l .n < 16 ⌝ }
+    requires { ⌜ l .n < list-limit ⌝ }
     ensures { λ r. ⌜ Pushed l s r ⌝ }
 {
     let mut items = l.items;

@@ -8,7 +8,7 @@ use Refusals.{Stage, Breach}
 use Refusals.{high-byte, long, no-rule, many-tokens, many-open, bad-token, bad-end, uses-left-out, token-breach, too-deep, long-list}
 use Refusals.{many-tasks, many-data-items, many-parts, many-assignments, many-sources, short-table, name-breach, no-type}
 use lib.ListN.{length}
-use Rattle.paper_guideline.specs.Limits.{text-limit, part-limit}
+use Rattle.paper_guideline.specs.Limits.{guideline-limit, part-limit}
 use Rattle.parts.specs.Part.{Table}
 use Rattle.limits.specs.Limits.{row-cells}
 use Rattle.reading.specs.declared.Reading.{Reading}
@@ -60,7 +60,7 @@ module _ {Short : Type 0} (never : ¬ Short) {text : List ℕ} where
 -- ---- tables with all cells
 
 module _ {text x z : List ℕ} {t u : Table} {r : Reading} (a : Answered text x t z u r) (rows : length x ≡ row-cells) (cells : length (t .cells) ≡ part-limit * 4)
-    (bytes : length (t .bytes) ≡ text-limit) where
+    (bytes : length (t .bytes) ≡ guideline-limit) where
   never : ¬ Short x t
   never e = contra (rw (rows, cells, bytes) at e)
 

@@ -12,11 +12,8 @@ use Rattle.paper_expressions.specs.Limits.{text-limit}
 use Rattle.paper_expressions.specs.Types.{Ty, Text, Integer, Real, SetofText, SetofReal, SetofInteger, SetofAnything, TruthValue}
 use Rattle.paper_expressions.specs.Values.{Scalar, Value}
 use Rattle.paper_expressions.specs.Laws.WithinLimits.{Small, unknown-small, truth-small, integer-small, real-small, text-small, EachSmall, none-small, more-small, Limited, one-limited, list-limited}
+use Rattle.written.specs.Limit.{answer-limit}
 use Rattle.paper_guideline.specs.Line.{refused, gives, type-name, digits-in, digits-of, with-sign, with-point, scalar-written, more-written, value-written, answer-written}
-
--- bytes that hold every answer
-abbrev pub answer-limit : ℕ
-answer-limit = 1024
 
 -- ---- numbers
 

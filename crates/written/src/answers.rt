@@ -3,12 +3,28 @@ ghost use Rattle.paper_guideline.specs.Line.{answer-written};
 ghost use Rattle.paper_guideline.specs.Line as line;
 ghost use Rattle.values.specs.Meaning.{meaningV};
 ghost use Rattle.digits.specs.Appends.{Appends};
+ghost use mathlib.Core.Path.{_≡_};
+ghost use Rattle.written.specs.Limit.{answer-limit};
 ghost use Rattle.written.specs.Named.{OfType, name-of, answer-of};
 use crate::lists::value;
 use digits::byte;
 use digits::number;
 use digits::word;
 use values::Value;
+
+// The answer to a line.
+pub struct Answer;
+
+impl Answer {
+    // bytes of an answer
+    pub const LIMIT: usize = 1_024;
+
+    pub fn bytes() -> usize
+        ensures { λ r. ⌜ r ≡ answer-limit ⌝ }
+    {
+        Answer::LIMIT
+    }
+}
 
 // The name of the type that has the letter.
 fn type_name(letter: u8, out: &mut [u8], o: usize) -> usize

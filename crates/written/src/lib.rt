@@ -3,5 +3,6 @@ mod answers;
 mod lists;
 mod scalars;
 
+pub use answers::Answer;
 pub use answers::gives;
 pub use answers::refused;

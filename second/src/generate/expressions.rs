@@ -22,9 +22,9 @@ const TEXTS: [&str; 24] = [
     "a", "b", "B", "abc", "ABD", "abcd", "yes", "no", "unknown", "true", "_x1", "Zebra", "'two words'", "''",
     "'a'", "'it\\'s'", "'plan'", "'_'", "\"a\"", "\"\"", "\"Yes\"", "\"a b\"", "\"say \\\"x\\\"\"", "\"[\"",
 ];
-const FUNCTORS: [&str; 14] = [
+const FUNCTORS: [&str; 15] = [
     "min", "max", "sum", "count", "nth", "not", "if", "isknown", "is_dormant", "'-'", "Min", "f", "'+'",
-    "'min'",
+    "'min'", "''",
 ];
 const INFIX: [&str; 14] =
     ["+", "-", "*", "/", "<", "=", "!=", "and", "or", "AND", "OR", "includes", "include", "oneof"];

@@ -4,10 +4,14 @@
 mod damage;
 mod expressions;
 mod faults;
+pub mod figures;
+mod givens;
 pub mod guidelines;
 mod limits;
 pub mod lines;
 mod random;
+mod running;
+pub mod scripts;
 mod sketch;
 pub mod texts;
 mod words;

@@ -73,7 +73,7 @@ pub fn spelled(name: &str, random: &mut Random) -> String {
 
 /// A name in capitals, in small letters, or with a capital first.
 pub fn other_case(name: &str, random: &mut Random) -> String {
-    let (first, rest) = name.split_at(1);
+    let (first, rest) = name.split_at(name.len().min(1));
     match random.below(3) {
         0 => name.to_ascii_uppercase(),
         1 => name.to_ascii_lowercase(),
@@ -138,7 +138,8 @@ impl Sketch {
             }
         }
         if random.chance(15) {
-            attributes.push(Attribute::new("trigger", vec![spelled(random.pick(&NAMES), random)]));
+            let trigger = if random.chance(10) { "" } else { random.pick(&NAMES) };
+            attributes.push(Attribute::new("trigger", vec![spelled(trigger, random)]));
         }
         if !self.items.is_empty() && random.chance(40) {
             attributes.push(Attribute::new("postcondition", self.assertion(random)));
@@ -154,7 +155,7 @@ impl Sketch {
     }
 
     /// A caption, a description, both or neither.
-    fn generic(&mut self, random: &mut Random) -> Vec<Attribute> {
+    pub fn generic(&mut self, random: &mut Random) -> Vec<Attribute> {
         let mut generic = Vec::new();
         for word in ["caption", "description"] {
             if random.chance(20) {
@@ -165,7 +166,7 @@ impl Sketch {
         generic
     }
 
-    fn source(&mut self, random: &mut Random) -> Attribute {
+    pub fn source(&mut self, random: &mut Random) -> Attribute {
         let name = random.choose(&self.items).name.clone();
         let mut source = Attribute::new("source", vec![spelled(&name, random)]);
         source.inner = self.generic(random);
@@ -177,7 +178,7 @@ impl Sketch {
     }
 
     /// Some assignments, joined and now and then bracketed.
-    fn assertion(&mut self, random: &mut Random) -> Words {
+    pub fn assertion(&mut self, random: &mut Random) -> Words {
         let mut made = Words::new();
         for index in 0..1 + random.below(3) {
             let item = random.below(self.items.len());
@@ -226,9 +227,13 @@ impl Sketch {
     }
 }
 
-/// A name that no other definition of its kind has, folded or not.
-fn new_name(number: usize, random: &mut Random) -> String {
-    format!("{}{}", random.pick(&NAMES), number)
+/// A name that no other definition of its kind has, folded or not; now and
+/// then the second one is empty.
+pub fn new_name(number: usize, random: &mut Random) -> String {
+    match number == 1 && random.chance(8) {
+        true => String::new(),
+        false => format!("{}{}", random.pick(&NAMES), number),
+    }
 }
 
 /// The inferred type of an item.
@@ -238,7 +243,7 @@ pub fn declared_type(item: &Owner) -> Type {
     DECLARED.iter().find(|entry| entry.0 == name).map_or(Type::Text, |entry| entry.1)
 }
 
-fn yes_or_no(random: &mut Random) -> Words {
+pub fn yes_or_no(random: &mut Random) -> Words {
     words(random.pick(&["yes", "no", "yes", "no", "'yes'", "'no'"]))
 }
 

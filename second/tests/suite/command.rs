@@ -66,3 +66,26 @@ fn generators_write_what_they_are_asked_for() {
     let answers = run(&["tokens-many"], &run(&["texts", "7", "20"], b""));
     assert_eq!(answers.iter().filter(|byte| **byte == b'\n').count(), 20);
 }
+
+#[test]
+fn replay() {
+    let input = batch(&[b"load 19\nplan :: a;end plan.\nrun 256 1024\nrow 0 0 6\n", b"rows\n", b""]);
+    assert_eq!(run(&["replay"], &input), b"loaded\nquiet 2\ncompleted\n--\nrefused 7 0\n--\n--\n");
+}
+
+#[test]
+fn scripts_are_replayed() {
+    let answers = run(&["replay"], &run(&["scripts", "7", "20"], b""));
+    assert_eq!(answers.split(|byte| *byte == b'\n').filter(|line| *line == b"--").count(), 20);
+}
+
+#[test]
+fn transcript() {
+    let folder = concat!(env!("CARGO_MANIFEST_DIR"), "/../examples/scripts");
+    let (guideline, script) = (format!("{folder}/bound.pf"), format!("{folder}/bound.script"));
+    let told = String::from_utf8(run(&["transcript", &guideline, &script], b"")).expect("it is text");
+    assert!(told.starts_with("> load "));
+    assert!(told
+        .contains("\n  cycle 1, at 0 s\n    initialised: task 1 (lift)\n    started: task 0 (the root)\n"));
+    assert!(told.ends_with("> rows\n  refused 7 0\n"));
+}

@@ -2,13 +2,21 @@
 //! from document 01, the rulings and the paper.
 
 mod command;
+mod conditions;
+mod enacting;
 mod generators;
 mod grammar;
+mod hand;
 mod left_out;
 mod lexing;
 mod limits;
 mod loaded;
+mod loading;
 mod names;
+mod operations;
+mod refusals;
+mod replaying;
+mod runs;
 mod sheet;
 mod stages;
 mod types;
@@ -44,6 +52,14 @@ fn loads(text: &str) {
 /// The tree of an expression that the grammar is known to take.
 fn tree(text: &str) -> Expression {
     group(&lexer::tokens(text).expect("the text has tokens")).expression
+}
+
+/// The answers to calls that follow the load of a guideline.
+fn replayed(text: &str, calls: &str) -> String {
+    let script = format!("load {}\n{text}\n{calls}", text.len());
+    let answers = second::replay::answers(script.as_bytes()).expect("the script has the form");
+    let rest = answers.strip_prefix("loaded\n").and_then(|rest| rest.strip_suffix("--\n"));
+    rest.unwrap_or_else(|| panic!("{text} loads")).to_string()
 }
 
 /// A guideline whose root has these attributes, beside an action `b`, an

@@ -53,7 +53,7 @@ walk-holds c =
       omega arith,
       ap length (c .begin .ensures) ∙ begin-length (s .args .shut),
       λ j h. ap (λ (l : List ℕ). getD l j 0) (c .begin .ensures) ∙ sym (after-none t at g ok j) ∙ ap (λ (n : ℕ). After g t at j n) (sym z),
-      subst (λ (p : ℕ). Sofar t at p (record { len = 0; rule = 0; state = 0 })) y (sofar-none t at g ok (record { len = 0; rule = 0; state = 0 }) refl),
+      subst (λ (p : ℕ). Sofar t at p (record { len = 0; rule = 0 })) y (sofar-none t at g ok (record { len = 0; rule = 0 }) refl),
     )
 
 rules-holds : tie.Need-rules-holds Inv-rules μ-rules Inv-walk μ-walk

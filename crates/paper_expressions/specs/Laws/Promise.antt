@@ -1,45 +1,26 @@
 -- Law: of an expression that has a type, in a sound view, at every part exactly one clause fits and gives exactly one value, which is
 -- unknown or of the part's type. By induction on the typing; uniqueness by a function, evalF, that the clauses agree with.
-use mathlib.Core.Path.{_≡_, refl, sym, ap, subst, subst₂, _∙_}
+use mathlib.Core.Path.{_≡_, refl, subst, subst₂}
 use mathlib.Core.List.{List, [], _∷_}
 use mathlib.Core.Option.{Option, none, some}
 use Prim.Native.Nat.{ℕ}
-use lib.IntN.{ℤ}
 use Rattle.paper_expressions.specs.Values.{Scalar, unknown, integer, real, text, Value, one, sequence}
-use Rattle.paper_expressions.specs.Types.{Ty, Text, Integer, Real, SetofText, SetofReal, SetofInteger, SetofAnything, inferred, OfScalar, unknown-of-any, integer-of, integer-counts-as-real, real-of, text-of}
+use Rattle.paper_expressions.specs.Types.{Ty, Text, Integer, Real, inferred, OfScalar, unknown-of-any, integer-of, integer-counts-as-real, real-of, text-of}
 use Rattle.paper_expressions.specs.Types.{element-text, element-integer, element-real, EachOf, each-none, each-more, Of, of-scalar, of-list, of-empty}
 use Rattle.paper_expressions.specs.Clauses.{Clause, §9·1-1a, §9·1-1b, §9·1-2a, §9·1-2b, §9·1-3, §9·1-4, §9·1-7, §9·1-8, §9·1-9, §9·2-2, §9·2-3, §9·5-2, §9·5-3}
 use Rattle.paper_expressions.specs.View.{View, Item, At, ResolveData, resolve-data-2, resolve-data-3, Apart, Sound}
-use Rattle.paper_expressions.specs.Operators.{Allowed, _⇒_, allowed, Op, arithmetic, divide, compare, and, or, includes, oneof, if, negate, isknown, not, count, sum, extreme, nth, is-in, no-such}
+use Rattle.paper_expressions.specs.Operators.{Allowed, _⇒_, Op, arithmetic, divide, compare, and, or, includes, oneof, if, negate, isknown, not, count, sum, extreme, nth, is-in, no-such}
 use Rattle.paper_expressions.specs.Operators.{Infix, infix-arithmetic, infix-divide, infix-compare, infix-and, infix-or, infix-includes, infix-oneof}
-use Rattle.paper_expressions.specs.Operators.{F, F-arithmetic, F-divide, F-compare, F-and, F-or, F-includes, F-oneof, F-if, F-negate, F-isknown, F-not, F-count, F-sum, F-extreme, F-nth, F-is-in}
+use Rattle.paper_expressions.specs.Operators.{F, F-arithmetic, F-divide, F-compare, F-and, F-or, F-includes, F-oneof}
 use Rattle.paper_expressions.specs.Expressions.{Expr, Exprs, Atom, IntegerLit, FloatLit, StringLit, Paren, Listing, Apply, ε, _▸_, Each, all-none, all-more, TextType, text-type, IntegerType, integer-type, IntegerOrReal, integer-or, or-real}
 use Rattle.paper_expressions.specs.Expressions.{Listed, rule-8, rule-9a, rule-9b, rule-9c, Among, here, there, Reaches, First, first, next, Applied, rule-10a, rule-10b}
 use Rattle.paper_expressions.specs.Expressions.{HasType, rule-1b, rule-1c, rule-2, rule-3, rule-4, rule-5, rule-8-9, rule-10, HaveTypes, types-none, types-more}
 use Rattle.paper_expressions.specs.Evaluation.{EvaluateData, data-2, data-3, Elements, elements-none, elements-more, Evaluates, atom-data, atom-text, number-integer, number-float, string, parentheses, infix-form, functor-form, listing, Values, values-none, values-more}
-use Rattle.paper_expressions.specs.Laws.Search.{no-clash, Same, ExactlyOne, atF, at-only, at-one, at-has}
+use Rattle.paper_expressions.specs.Laws.Search.{no-clash, Same, atF, at-only, at-one, at-has}
 use Rattle.paper_expressions.specs.Laws.Resolve.{resolve-dataF, data-fits, data-same}
 use Rattle.paper_expressions.specs.Laws.Finds.{Fit, none-fit, one-fits, fit-reaches, Finds, finds}
 use Rattle.paper_expressions.specs.Laws.Only.{Answer, gives, fails, same-answer, run, F-only}
-
--- ---- the promise
-
--- the parts of an expression: itself, and the parts of what it is made of
-mutual
-  pub data Part (p : Expr) : Expr → Type 0 where
-    itself : Part p p
-    of-paren : {e : Expr} → Part p e → Part p (Paren e)
-    of-listing : {es : Exprs} → PartOfSome p es → Part p (Listing es)
-    of-apply : {o : Op} {es : Exprs} → PartOfSome p es → Part p (Apply o es)
-
-  pub data PartOfSome (p : Expr) : Exprs → Type 0 where
-    of-first : {e : Expr} {es : Exprs} → Part p e → PartOfSome p (e ▸ es)
-    of-rest : {e : Expr} {es : Exprs} → PartOfSome p es → PartOfSome p (e ▸ es)
-
--- exactly one list of clauses fits, the value is one, and unknown or of the type
-pub record Promised (τ : View) (T : ℕ) (e : Expr) (t : Ty) : Type 0 where
-  pub exactly-one : ExactlyOne (Evaluates τ T e)
-  pub typed : Of (exactly-one .value) t
+pub use Rattle.paper_expressions.specs.Promises.{Part, itself, of-paren, of-listing, of-apply, PartOfSome, of-first, of-rest, Promised}
 
 -- ---- an application
 
@@ -48,7 +29,7 @@ pub record Reached (ts : List Ty) (list : List Allowed) (t : Ty) : Type 0 where
   pub allows : Among (args ⇒ t) list
   pub reaches : Reaches ts args
 
-reached : {ts : List Ty} {list : List Allowed} {t : Ty} → First ts list t → Reached ts list t
+pub reached : {ts : List Ty} {list : List Allowed} {t : Ty} → First ts list t → Reached ts list t
 reached (first h) = record { args = _; allows = here; reaches = h }
 reached (next h f) = let r = reached f in record { args = r .args; allows = there (r .allows); reaches = r .reaches }
 
@@ -318,7 +299,7 @@ module _ (τ : View) (T : ℕ) where
       go none q = it-comes (atom-data k (data-3 (λ y w i p. let s = at-one h i in no-clash (cc)))) (of-scalar unknown-of-any)
 
   mutual
-    comes : Sound τ → {e : Expr} {t : Ty} → HasType τ T e t → Comes e t
+    pub comes : Sound τ → {e : Expr} {t : Ty} → HasType τ T e t → Comes e t
     comes sound (rule-1b h k e) = item-comes sound h (resolve-data-2 h k) e
     comes sound (rule-1c m) = it-comes (atom-text (resolve-data-3 m)) (of-scalar text-of)
     comes sound rule-2 = it-comes number-integer (of-scalar integer-of)
@@ -333,7 +314,7 @@ module _ (τ : View) (T : ℕ) where
         let k = come sound hs in
         apply-comes (k .fits) (applied-finds (sound .apart) h (k .typed))
 
-    come : Sound τ → {es : Exprs} {ts : List Ty} → HaveTypes τ T es ts → Come es ts
+    pub come : Sound τ → {es : Exprs} {ts : List Ty} → HaveTypes τ T es ts → Come es ts
     come sound types-none = record { values = []; fits = values-none; typed = none-fit }
     come sound (types-more h hs) =
         let k = comes sound h in

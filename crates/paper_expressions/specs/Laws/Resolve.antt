@@ -6,7 +6,7 @@ use mathlib.Core.Option.{Option, none, some}
 use Prim.Native.Nat.{ℕ}
 use Rattle.paper_expressions.specs.Bytes.{Alike}
 use Rattle.paper_expressions.specs.Clauses.{Clause, §9·5-2, §9·5-3, §9·6-1, §9·6-3}
-use Rattle.paper_expressions.specs.View.{View, Item, Task, At, ResolveData, resolve-data-2, resolve-data-3, ParentPlan, IsAncestor, ancestor-1, ancestor-2}
+use Rattle.paper_expressions.specs.View.{View, Item, Task, At, ResolveData, resolve-data-2, resolve-data-3, ParentPlan, IsAncestor, ancestor-1, ancestor-2, Ancestry, is-ancestor, ancestor-3}
 use Rattle.paper_expressions.specs.View.{Named, Sole, Below, SoleBelow, ResolveTask, resolve-task-1, resolve-task-2, resolve-task-3, Apart}
 use Rattle.paper_expressions.specs.Laws.Search.{Same, ExactlyOne, Reflects, of-yes, of-no, reflects-iff, no-clash, alikeb, alike-reflects, indexF, Looked, found, missing, looked}
 
@@ -17,6 +17,13 @@ ancestor-one (ancestor-1 h) (ancestor-1 k) = refl
 ancestor-one (ancestor-1 h) (ancestor-2 n g k) = absurd (n h)
 ancestor-one (ancestor-2 n g h) (ancestor-1 k) = absurd (n k)
 ancestor-one (ancestor-2 n g h) (ancestor-2 m f k) = refl
+
+-- in every view at most one of the three clauses fits, with one answer
+pub ancestry-same : {v : View} {t1 t2 : ℕ} {c d : Clause} {a b : Bool} → Ancestry v t1 t2 c a → Ancestry v t1 t2 d b → Same c a d b
+ancestry-same (is-ancestor h) (is-ancestor k) = record { clause = ancestor-one h k; value = refl }
+ancestry-same (is-ancestor h) (ancestor-3 n) = absurd (n _ h)
+ancestry-same (ancestor-3 n) (is-ancestor k) = absurd (n _ k)
+ancestry-same (ancestor-3 n) (ancestor-3 m) = record { clause = refl; value = refl }
 
 module _ (v : View) (T : ℕ) (a : List ℕ) where
   -- ---- 9.5

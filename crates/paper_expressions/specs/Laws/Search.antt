@@ -1,5 +1,5 @@
 -- Law: tests that tell whether something holds, and searches through lists, each with what it says. Shared by the laws below.
-use mathlib.Core.Path.{_≡_, refl, sym, ap, subst, _∙_}
+use mathlib.Core.Path.{_≡_, refl, ap, subst}
 use mathlib.Core.Bool.{Bool, true, false, cond, _&&_}
 use mathlib.Core.Bool as Bool
 use mathlib.Core.List.{List, [], _∷_}
@@ -11,22 +11,10 @@ use lib.Dec.{eqb, ltb}
 use borrow.Author.Tests.{eqb-true, eqb-false, lt-ltb, le-ltb}
 use Rattle.paper_expressions.specs.Bytes.{folded, Alike}
 use Rattle.paper_expressions.specs.View.{At, at-first, at-later}
+pub use Rattle.paper_expressions.specs.Promises.{Same, ExactlyOne}
 
 pub no-clash : _≡_ {A = ℕ} 0 1 → ⊥
 no-clash z = omega arith
-
--- ---- the same clause and the same answer
-
-pub record Same {B A : Type 0} (c : B) (r : A) (d : B) (s : A) : Type 0 where
-  pub clause : c ≡ d
-  pub value : r ≡ s
-
--- exactly one clause of R fits, and it gives exactly one answer
-pub record ExactlyOne {B A : Type 0} (R : B → A → Type 0) : Type 0 where
-  pub clause : B
-  pub value : A
-  pub fits : R clause value
-  pub only : {c : B} {r : A} → R c r → Same c r clause value
 
 -- ---- the test b tells whether P
 

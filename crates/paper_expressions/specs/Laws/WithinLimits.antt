@@ -1,60 +1,22 @@
 -- Law: no value passes a limit, where the literals and the items' values don't. By induction on the evaluation.
-use mathlib.Core.Path.{_≡_, refl, sym, ap, subst, _∙_}
-use mathlib.Core.Bool.{Bool, true, false}
+use mathlib.Core.Path.{_≡_, refl, ap}
+use mathlib.Core.Bool.{Bool}
 use mathlib.Core.List.{List, [], _∷_}
-use mathlib.Core.Option.{Option, none, some}
-use Prim.Native.Nat.{ℕ, zero, suc, _≤_, _<_}
+use Prim.Native.Nat.{ℕ, zero, suc, _≤_}
 use native.Mathlib.Omega.{arith}
 use lib.IntN.{ℤ, pos, negsuc, negℤ, natAbs}
 use lib.ListN.{getD, length}
-use Rattle.paper_expressions.specs.Limits.{integer-limit, real-limit, text-limit, list-limit}
-use Rattle.paper_expressions.specs.Values.{Scalar, unknown, truth, integer, real, text, Value, one, sequence, TaskState, InLimit, InRealLimit, IsInteger, is-integer, IsReal, is-real, IsSequence, is-sequence}
+use Rattle.paper_expressions.specs.Limits.{integer-limit}
+use Rattle.paper_expressions.specs.Values.{Scalar, unknown, truth, integer, real, text, Value, one, sequence, TaskState, is-integer, is-real, is-sequence}
 use Rattle.paper_expressions.specs.Clauses.{Clause}
-use Rattle.paper_expressions.specs.View.{View, Item, At}
-use Rattle.paper_expressions.specs.Operators.{Arithmetic, Arith, arith-1a, arith-1b, arith-1c, arith-1d, arith-2, Divide, divide-1a, divide-1b, divide-1c, divide-2, compared, And, and-1, and-2, Or, or-1, or-2, element, Includes, includes-1, includes-2}
+use Rattle.paper_expressions.specs.View.{View}
+use Rattle.paper_expressions.specs.Operators.{Arithmetic, Arith, arith-1a, arith-1b, arith-1c, arith-1d, arith-2, Divide, divide-1a, divide-1b, divide-1c, divide-2, compared, And, and-1, and-2, Or, or-1, or-2, Includes, includes-1, includes-2}
 use Rattle.paper_expressions.specs.Operators.{If, if-1, if-2, if-3, Negate, negate-1a, negate-1b, negate-2, IsKnown, isknown-1, isknown-2, Not, not-1, not-2, Count, count-1, count-2, count-3, Sum, sum-1a, sum-1b, sum-1c, sum-1d, sum-2, sum-3}
 use Rattle.paper_expressions.specs.Operators.{Extreme, Extremal, extremal-1, extremal-2, Nth, nth-1, nth-2, IsIn, is-in-1, is-in-2, is-in-3, Op}
 use Rattle.paper_expressions.specs.Operators.{F, F-arithmetic, F-divide, F-compare, F-and, F-or, F-includes, F-oneof, F-if, F-negate, F-isknown, F-not, F-count, F-sum, F-extreme, F-nth, F-is-in}
-use Rattle.paper_expressions.specs.Expressions.{Expr, Exprs, Atom, IntegerLit, FloatLit, StringLit, Paren, Listing, Apply, ε, _▸_}
+use Rattle.paper_expressions.specs.Expressions.{Expr, Exprs}
 use Rattle.paper_expressions.specs.Evaluation.{EvaluateData, data-2, data-3, Elements, elements-none, elements-more, Evaluates, atom-data, atom-text, number-integer, number-float, string, parentheses, infix-form, functor-form, listing, Values, values-none, values-more}
-
--- ---- values, expressions and views within the limits
-
-pub data Small : Scalar → Type 0 where
-  unknown-small : Small unknown
-  truth-small : {b : Bool} → Small (truth b)
-  integer-small : {n : ℤ} → InLimit n → Small (integer n)
-  real-small : {n : ℤ} → InRealLimit n → Small (real n)
-  text-small : {s : List ℕ} → length s ≤ text-limit → Small (text s)
-
-pub data EachSmall : List Scalar → Type 0 where
-  none-small : EachSmall []
-  more-small : {s : Scalar} {l : List Scalar} → Small s → EachSmall l → EachSmall (s ∷ l)
-
-pub data Limited : Value → Type 0 where
-  one-limited : {s : Scalar} → Small s → Limited (one s)
-  list-limited : {l : List Scalar} → length l ≤ list-limit → EachSmall l → Limited (sequence l)
-
-abbrev pub size : Exprs → ℕ
-size ε = 0
-size (e ▸ es) = suc (size es)
-
-mutual
-  pub data Modest : Expr → Type 0 where
-    atom-modest : {a : List ℕ} → length a ≤ text-limit → Modest (Atom a)
-    integer-modest : {n : ℤ} → InLimit n → Modest (IntegerLit n)
-    float-modest : {n : ℤ} → InRealLimit n → Modest (FloatLit n)
-    string-modest : {s : List ℕ} → length s ≤ text-limit → Modest (StringLit s)
-    paren-modest : {e : Expr} → Modest e → Modest (Paren e)
-    listing-modest : {es : Exprs} → size es ≤ list-limit → AllModest es → Modest (Listing es)
-    apply-modest : {o : Op} {es : Exprs} → AllModest es → Modest (Apply o es)
-
-  pub data AllModest : Exprs → Type 0 where
-    none-modest : AllModest ε
-    more-modest : {e : Expr} {es : Exprs} → Modest e → AllModest es → AllModest (e ▸ es)
-
-pub record Held (τ : View) : Type 0 where
-  pub held : {i : ℕ} {x : Item} {w : Value} → At (τ .items) i x → x .value ≡ some w → Limited w
+pub use Rattle.paper_expressions.specs.Within.{Small, unknown-small, truth-small, integer-small, real-small, text-small, EachSmall, none-small, more-small, Limited, one-limited, list-limited, size, Modest, atom-modest, integer-modest, float-modest, string-modest, paren-modest, listing-modest, apply-modest, AllModest, none-modest, more-modest, Held}
 
 -- ---- proofs
 

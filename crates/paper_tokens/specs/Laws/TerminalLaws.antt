@@ -21,11 +21,11 @@ use Rattle.paper_tokens.specs.Laws.LexicalTwin.{same, same-is, same-self
 
 -- ---- one of a list of texts
 
-abbrev one-of : List ℕ → List String → Bool
+abbrev pub one-of : List ℕ → List String → Bool
 one-of w [] = false
 one-of w (s ∷ l) = same w (bytes s) || one-of w l
 
-one-of-is : (w : List ℕ) (l : List String) → one-of w l ≡ true → OneOf w l
+pub one-of-is : (w : List ℕ) (l : List String) → one-of w l ≡ true → OneOf w l
 one-of-is w [] h = contra h
 one-of-is w (s ∷ l) h = ⊎-elim
     (λ (e : same w (bytes s) ≡ true). record { string = s; listed = List·Memᴰ·head refl; same = same-is w (bytes s) e })
@@ -36,7 +36,7 @@ or-right : (a b : Bool) → b ≡ true → a || b ≡ true
 or-right true b e = refl
 or-right false b e = e
 
-is-one-of : {w : List ℕ} {s : String} {l : List String} → List·Memᴰ s l → w ≡ bytes s → one-of w l ≡ true
+pub is-one-of : {w : List ℕ} {s : String} {l : List String} → List·Memᴰ s l → w ≡ bytes s → one-of w l ≡ true
 is-one-of {w} (List·Memᴰ·head {x} {xs} h) e = ap (λ (b : Bool). b || one-of w xs) (subst (λ (v : List ℕ). same w v ≡ true) (e ∙ ap bytes h) (same-self w))
 is-one-of {w} (List·Memᴰ·tail {x} {xs} m) e = or-right (same w (bytes x)) (one-of w xs) (is-one-of m e)
 

@@ -1,6 +1,6 @@
 -- `in_state`: the state of the task that is found.
 use borrow.Author.Needs.{needs}
-use Rattle.apply.specs.Tasks.{state-found, state-missing}
+use Rattle.apply.specs.TaskLaws.{state-found, state-missing}
 use Rattle.apply.proofs.states.in_state.Statement.{statement}
 use Rattle.apply.proofs.states.in_state.Tie as tie
 

@@ -30,7 +30,7 @@ returns-3 c =
     e ∙ ap realOf (c .before .literal2 .ensures) ∙ ap (λ (k : ℕ). scalarAt k (a .x)) (sym (c .before .before .match .keys3))
 
 returns-4 : tie.Need-returns-4
-returns-4 c = let a = c .before .before .args in ap Text (c .handle .ensures) ∙ ap (λ (k : ℕ). scalarAt k (a .x)) (sym (c .before .match .keys4))
+returns-4 c = let a = c .before .before .args in ap Text (c .handle-of .ensures) ∙ ap (λ (k : ℕ). scalarAt k (a .x)) (sym (c .before .match .keys4))
 
 returns-5 : tie.Need-returns-5
 returns-5 c = let n = c .match .rest in simp (ne-eqb _ 1 (n .0 .0 .0 .1), ne-eqb _ 2 (n .0 .0 .1), ne-eqb _ 3 (n .0 .1), ne-eqb _ 4 (n .1))

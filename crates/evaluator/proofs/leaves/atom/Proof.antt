@@ -12,7 +12,7 @@ returns c = let a = c .before .before .before .before .before .before .before .a
 returns-2 : tie.Need-returns-2
 returns-2 c =
     let a = c .before .before .before .before .before .before .before .before .args in
-    atom-itself (a .bytes .now) (a .names .now) (a .tags .now) (a .nums .now) (a .h) (c .before .before .before .find .result) (c .single .result) (c .before .before .before .find .ensures) (c .before .before .if1 .left) (c .single .ensures .0, c .single .ensures .1 ∙ ap Text (c .before .handle .ensures))
+    atom-itself (a .bytes .now) (a .names .now) (a .tags .now) (a .nums .now) (a .h) (c .before .before .before .find .result) (c .single .result) (c .before .before .before .find .ensures) (c .before .before .if1 .left) (c .single .ensures .0, c .single .ensures .1 ∙ ap Text (c .before .handle-of .ensures))
 
 pub atom-spec : {M : Type 1} → statement M
 atom-spec =

@@ -13,19 +13,19 @@ use Rattle.explain.proofs.offer.ends.Statement.{statement}
 use Rattle.explain.proofs.offer.ends.Tie as tie
 
 returns : tie.Need-returns
-returns c = λ _. let w = now (c .before .before .before .before .before .before .args .kinds) in let v = subst (Verdict Process w) (c .enum-told .given .1) (c .before .before .before .read .ensures .verdict) in v .1
+returns c = λ _. let w = now (c .before .before .before .before .args .kinds) in let v = subst (Verdict Process w) (c .enum-told .given .1) (c .before .before .read .ensures) in v .1
 
 returns-2 : tie.Need-returns-2
-returns-2 c = λ _. let w = now (c .before .before .before .before .before .before .args .kinds) in not-ended w (c .enum-told2 .given .0 .0) (subst (Verdict Process w) (c .enum-told2 .given .1) (c .before .before .before .read .ensures .verdict))
+returns-2 c = λ _. let w = now (c .before .before .before .before .args .kinds) in not-ended w (c .enum-told2 .given .0 .0) (subst (Verdict Process w) (c .enum-told2 .given .1) (c .before .before .read .ensures))
 
 returns-3 : tie.Need-returns-3
-returns-3 c = λ l. let w = now (c .before .before .before .before .before .before .args .kinds) in let v : token-limit < length w = subst (Verdict Process w) (c .enum-told3 .given .1) (c .before .before .before .read .ensures .verdict) in absurd (omega arith)
+returns-3 c = λ l. let w = now (c .before .before .before .before .args .kinds) in let v : token-limit < length w = subst (Verdict Process w) (c .enum-told3 .given .1) (c .before .before .read .ensures) in absurd (omega arith)
 
 pub ends-spec : {M : Type 1} → statement M
 ends-spec =
     tie.close
     (tie.spec
-    (λ c. search needs) (λ c κs. search needs) (λ c. search needs)
+    (λ c κs. search needs) (λ c. search needs)
     returns
     (λ c. search needs)
     returns-2

@@ -1,6 +1,9 @@
--- `size` reads the first byte of a cell: the table is the spellings, by one computed equality.
-use Rattle.paper_tokens.specs.Words.{reserved}
-use Rattle.explain.specs.Spelling.{others, spellings, spellings-table, size-is, size-past}
+-- `size` reads the first byte of a cell.
+use Prim.Native.Nat.{ℕ, _*_}
+use mathlib.Core.Path.{ap, _∙_}
+use mathlib.Core.List.{List}
+use lib.ListN.{getD}
+use Rattle.explain.specs.Spelling.{size-is, size-past}
 use borrow.Author.Needs.{needs}
 use Rattle.explain.proofs.spelling.size.Statement.{statement}
 use Rattle.explain.proofs.spelling.size.Tie as tie
@@ -9,8 +12,7 @@ returns : tie.Need-returns
 returns c = size-past (c .before .args .k) (c .if1 .taken)
 
 returns-2 : tie.Need-returns-2
-unfolding reserved others spellings spellings-table
-returns-2 c = size-is (c .before .before .before .args .k) (c .before .wide .result) (c .wide2 .result) (c .before .before .if1 .left) (c .before .wide .ensures) (c .wide2 .ensures)
+returns-2 c = size-is (c .before .before .before .before .args .k) (c .before .before .wide .result) (c .wide2 .result) (c .before .before .before .if1 .left) (c .before .before .wide .ensures) (c .wide2 .ensures ∙ ap (λ (l : List ℕ). getD l (c .before .before .wide .result * 24) 0) (c .before .before .before .before .pre))
 
 pub size-spec : {M : Type 1} → statement M
 size-spec =

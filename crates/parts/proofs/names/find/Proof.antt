@@ -6,6 +6,7 @@ use native.Mathlib.Omega.{arith}
 use lib.ListN.{length, getD}
 use borrow.Author.Count.{below-more}
 use borrow.Author.Needs.{needs}
+use Rattle.paper_expressions.specs.Laws.Tests.{contra}
 use Rattle.paper_expressions.specs.Laws.Search.{alikeb}
 use Rattle.parts.specs.Texts.{textAt}
 use Rattle.parts.proofs.names.find.Statement.{statement}
@@ -18,15 +19,17 @@ Inv-loop bytes names h i₀ i =
 abbrev μ-loop : tie.MeasureT-loop
 μ-loop bytes names h i₀ i = length names - i
 
--- what the call of `alike` says, of the name at the index
-asked : (c : tie.After-alike Inv-loop μ-loop) → c .alike .result ≡ alikeb (textAt (c .before .before .before .before .before .before .args .bytes .now) (getD (c .before .before .before .before .before .before .args .names .now) (c .before .before .before .loop .i) 0)) (textAt (c .before .before .before .before .before .before .args .bytes .now) (c .before .before .before .before .before .before .args .h))
-asked c = c .alike .ensures ∙ ap (λ (g : ℕ). alikeb (textAt (c .before .before .before .before .before .before .args .bytes .now) g) (textAt (c .before .before .before .before .before .before .args .bytes .now) (c .before .before .before .before .before .before .args .h))) (c .before .number .ensures)
-
 returns : tie.Need-returns Inv-loop μ-loop
-returns c = record { within = search needs; before = c .before .before .before .before .loop .inv .1; found = λ l. sym (asked (c .before)) ∙ c .if1 .taken }
+returns c =
+    let a = c .before .before .before .before .before .before .before .args in
+    let e = c .before .alike .ensures ∙ ap (λ (g : ℕ). alikeb (textAt (a .bytes .now) g) (textAt (a .bytes .now) (a .h))) (c .before .before .number .ensures) in
+    record { within = search needs; before = c .before .before .before .before .loop .inv .1; found = λ l. sym e ∙ c .if1 .taken }
 
 loop-again : tie.Need-loop-again Inv-loop μ-loop
-loop-again c = (search needs, below-more _ _ (c .before .before .before .before .loop .inv .1) (λ e. let z : _≡_ {A = ℕ} 0 1 = cc (asked (c .before), e, c .if1 .left) in absurd (omega arith)))
+loop-again c =
+    let a = c .before .before .before .before .before .before .before .args in
+    let e = c .before .alike .ensures ∙ ap (λ (g : ℕ). alikeb (textAt (a .bytes .now) g) (textAt (a .bytes .now) (a .h))) (c .before .before .number .ensures) in
+    (search needs, below-more _ _ (c .before .before .before .before .loop .inv .1) (λ y. contra (sym (c .if1 .left) ∙ e ∙ y)))
 
 returns-2 : tie.Need-returns-2 Inv-loop μ-loop
 returns-2 c = record { within = search needs; before = c .before .loop .inv .1; found = λ l. absurd (omega arith) }

@@ -12,7 +12,7 @@ returns : tie.Need-returns
 returns c = rw (eq-eqb (c .before .before .before .args .k) 99 (c .before .if1 .taken)) (c .exponent .ensures)
 
 returns-2 : tie.Need-returns-2
-returns-2 c = rw (ne-eqb (c .before .before .before .before .args .k) 99 (c .before .before .if1 .left), lt-ltb (c .before .before .before .before .args .k) 95 (c .before .if2 .taken)) (c .word .ensures)
+returns-2 c = rw (ne-eqb (c .before .before .before .before .args .k) 99 (c .before .before .if1 .left), lt-ltb (c .before .before .before .before .args .k) 95 (c .before .if2 .taken)) (c .is-word .ensures)
 
 returns-3 : tie.Need-returns-3
 returns-3 c = rw (ne-eqb (c .before .before .before .before .args .k) 99 (c .before .before .if1 .left), le-ltb (c .before .before .before .before .args .k) 95 (c .before .if2 .left), lt-leb (c .before .before .before .before .args .k) 97 (c .if3 .taken))

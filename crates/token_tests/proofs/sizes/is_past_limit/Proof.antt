@@ -1,38 +1,40 @@
--- `is_past_limit`: by the terminal.
-use mathlib.Core.Path.{ap, sym, _∙_}
-use lib.Dec.{ltb}
-use lib.ListN.{length}
-use borrow.Author.Tests.{eq-eqb, ne-eqb, lt-ltb, le-ltb}
-use Rattle.paper_expressions.specs.Limits.{text-limit}
-use Rattle.leaves.specs.Cells.{length-cells}
+-- `is_past_limit`: whether there is a limit that the token is past.
+use Prim.Native.Nat.{ℕ}
+use mathlib.Core.Path.{_≡_, sym, ap, _∙_}
+use mathlib.Core.List.{List}
 use borrow.Author.Needs.{needs}
+use Rattle.parts.specs.Texts.{cells}
+use Rattle.token_tests.specs.declared.sizes.Limit.{Limit}
+use Rattle.token_tests.specs.LimitTest.{limit-of, exceeded, limit-test, exceeds-is}
 use Rattle.token_tests.proofs.sizes.is_past_limit.Statement.{statement}
 use Rattle.token_tests.proofs.sizes.is_past_limit.Tie as tie
 
+told : (k : ℕ) (w : List ℕ) {r l : Limit} → r ≡ limit-of k w → r ≡ l → exceeded l ≡ limit-test k w
+told k w e f = ap exceeded (sym f ∙ e) ∙ exceeds-is k w
+
 returns : tie.Need-returns
-returns c = rw (eq-eqb (c .before .before .before .args .k) 98 (c .before .if1 .taken)) (c .large-integer .ensures)
+returns c = told (c .before .before .before .before .args .k) (cells (c .before .before .before .before .args .text .now) (c .before .before .before .before .args .at) (c .before .before .before .before .args .n)) (c .before .before .past .ensures) (c .enum-told .given .1)
 
 returns-2 : tie.Need-returns-2
-returns-2 c = rw (ne-eqb (c .before .before .before .before .args .k) 98 (c .before .before .if1 .left), eq-eqb (c .before .before .before .before .args .k) 99 (c .before .if2 .taken)) (c .large-float .ensures)
+returns-2 c = told (c .before .before .before .before .args .k) (cells (c .before .before .before .before .args .text .now) (c .before .before .before .before .args .at) (c .before .before .before .before .args .n)) (c .before .before .past .ensures) (c .enum-told2 .given .1)
 
 returns-3 : tie.Need-returns-3
-returns-3 c = rw (ne-eqb (c .before .before .before .before .args .k) 98 (c .before .before .if1 .left), ne-eqb (c .before .before .before .before .args .k) 99 (c .before .if2 .left), lt-ltb (c .before .before .before .before .args .k) 95 (c .if3 .taken))
+returns-3 c = told (c .before .before .before .before .args .k) (cells (c .before .before .before .before .args .text .now) (c .before .before .before .before .args .at) (c .before .before .before .before .args .n)) (c .before .before .past .ensures) (c .enum-told3 .given .1)
 
 returns-4 : tie.Need-returns-4
-returns-4 c =
-    let a = c .before .before .before .before .before .before .args in
-    let s = c .before .inside in
-    rw (ne-eqb (a .k) 98 (c .before .before .before .before .if1 .left), ne-eqb (a .k) 99 (c .before .before .before .if2 .left), le-ltb (a .k) 95 (c .before .before .if3 .left))
-    (ap (ltb text-limit) (sym (length-cells (a .text .now) (s .result .at) (s .result .n)) ∙ ap length (s .ensures .0)))
+returns-4 c = told (c .before .before .before .before .args .k) (cells (c .before .before .before .before .args .text .now) (c .before .before .before .before .args .at) (c .before .before .before .before .args .n)) (c .before .before .past .ensures) (c .enum-told4 .given .1)
+
+returns-5 : tie.Need-returns-5
+returns-5 c = told (c .before .before .before .before .args .k) (cells (c .before .before .before .before .args .text .now) (c .before .before .before .before .args .at) (c .before .before .before .before .args .n)) (c .before .before .past .ensures) (c .enum-told5 .given .1)
 
 pub is-past-limit-spec : {M : Type 1} → statement M
 is-past-limit-spec =
     tie.close
     (tie.spec
     (λ c κs. search needs)
+    (λ c. search needs) (λ c. search needs) (λ c. search needs) (λ c. search needs) (λ c. search needs)
     returns
-    (λ c κs. search needs)
     returns-2
     returns-3
-    (λ c κs. search needs)
-    returns-4)
+    returns-4
+    returns-5)

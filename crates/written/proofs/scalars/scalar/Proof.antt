@@ -27,15 +27,14 @@ returns-4 : tie.Need-returns-4
 returns-4 c = as-told (c .before .before .before .before .before .before .before .before .before .args .bytes .now) (c .before .before .before .before .before .s3 .given .1) (c .before .before .real .ensures)
 
 returns-5 : tie.Need-returns-5
-returns-5 c = as-told (c .before .before .before .before .before .before .before .before .before .before .args .bytes .now) (c .before .before .before .before .before .before .s4 .given .1) (rw (c .before .before .before .before .part .ensures) at (c .before .before .word2 .ensures))
+returns-5 c = as-told (c .before .before .before .before .before .before .before .before .before .args .bytes .now) (c .before .before .before .before .before .s4 .given .1) (c .before .before .text .ensures)
 
 pub scalar-spec : {M : Type 1} → statement M
 scalar-spec =
     tie.close
     (tie.spec
     (λ c. search needs) (λ c. search needs) (λ c κs. search needs) (λ c. search needs) (λ c κs. search needs) (λ c. search needs)
-    (λ c κs. search needs) (λ c. search needs) (λ c κs. search needs) (λ c. search needs) (λ c κs. search needs) (λ c κs. search needs)
-    (λ c. search needs)
+    (λ c κs. search needs) (λ c. search needs) (λ c κs. search needs) (λ c. search needs) (λ c κs. search needs) (λ c. search needs)
     returns
     (λ c. search needs)
     returns-2

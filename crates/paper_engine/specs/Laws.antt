@@ -1,0 +1,17 @@
+pub mod Kept
+pub mod Attached
+pub mod CollisionLaws
+pub mod CycleLaws
+pub mod Chains
+pub mod Twins
+pub mod ReviewLaws
+pub mod RowsLaws
+pub mod KeptLaws
+pub mod EnactLaws
+pub mod StateLaws
+pub mod CountLaws
+pub mod Spelling
+pub mod LimitLaws
+pub mod TimeLaws
+pub mod RowFacts
+pub mod Worked

@@ -1,0 +1,4 @@
+pub mod Conditions
+pub mod Operations
+pub mod Cycle
+pub mod Laws

@@ -1,0 +1,15 @@
+pub mod Booleans
+pub mod Lists
+pub mod Gathered
+pub mod Seen
+pub mod Ranks
+pub mod RowLists
+pub mod Deciding
+pub mod Lawful
+pub mod ReachLaws
+pub mod SingleLaws
+pub mod LoadLaws
+pub mod BareLaws
+pub mod InitialLaws
+pub mod Sized
+pub mod FineLaws

@@ -1,0 +1,4 @@
+pub mod Table
+pub mod Bare
+pub mod Load
+pub mod Laws

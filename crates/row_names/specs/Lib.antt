@@ -1,0 +1,9 @@
+pub mod Pieces
+pub mod Selected
+pub mod Sheet
+pub mod Shape
+pub mod Flat
+pub mod Agreement
+pub mod Owners
+pub mod NameLaw
+pub mod AttributeLaw

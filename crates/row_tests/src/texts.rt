@@ -1,0 +1,26 @@
+// Whether two texts are equal, byte by byte.
+use parts::byte;
+ghost use mathlib.Core.Path.{_≡_};
+ghost use Rattle.paper_expressions.specs.Laws.Search.{sameb};
+ghost use Rattle.parts.specs.Texts.{textAt};
+
+pub fn same(bytes: &[u8], g: usize, h: usize) -> bool
+    ensures { λ r. ⌜ r ≡ sameb (textAt (now (bytes .entry)) g) (textAt (now (bytes .entry)) h) ⌝ }
+{
+    let n = g % 64;
+    if n != h % 64 {
+        return false;
+    }
+    let mut x = g / 64;
+    let mut y = h / 64;
+    let mut m = n;
+    while 0 < m {
+        if byte(bytes, x) != byte(bytes, y) {
+            return false;
+        }
+        x += 1;
+        y += 1;
+        m -= 1;
+    }
+    true
+}
