@@ -15,7 +15,7 @@ use Tree.{Where, Tree, infix-operator, looser, unary-minus, an-atom, an-integer,
 use Rattle.paper_guideline.specs.Laws.TreeLaws.{Each, all, _&_}
 use Rattle.paper_guideline.specs.Limits.{larger, count, longest-list, longest-lists}
 use Rattle.paper_guideline.specs.Refusals.{TokenBreach, long-name, long-text, large-integer, large-real}
-use Rattle.measure.specs.Larger.{first-larger, second-larger}
+use Rattle.expression_steps.specs.Larger.{first-larger, second-larger}
 use Rattle.paper_guideline.specs.Laws.RefusalLaws.{le-or-gt}
 
 -- ---- the larger of two numbers

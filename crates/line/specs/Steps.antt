@@ -20,6 +20,9 @@ use Rattle.leaves.specs.Source.{source, Stand, Clean}
 use Rattle.written.specs.Limit.{answer-limit}
 use Rattle.line.specs.declared.tests.Verdict.{Verdict}
 use Rattle.line.specs.declared.tests.Verdict.the-variants.{Fine, Refused}
+use Rattle.line.specs.declared.tests.Fit.{Fit}
+use Rattle.line.specs.declared.tests.Fit.the-variants as Fit
+use Fit.{Within}
 use Rattle.line.specs.Reply.{Answered}
 
 -- cells that are blank, and enough for every answer
@@ -70,9 +73,9 @@ abbrev pub Parses : List ℕ → List ℕ → List ℕ → List ℕ → Verdict 
 Parses line kinds places lengths Fine = Parsed line kinds places lengths
 Parses line kinds places lengths (Refused n) = LineAnswers line (refused n)
 
-abbrev pub Fits : List ℕ → List ℕ → List ℕ → List ℕ → Verdict → Type 0
-Fits line kinds places lengths Fine = Fitting line kinds places lengths
-Fits line kinds places lengths (Refused n) = LineAnswers line (refused n)
+abbrev pub Fits : List ℕ → List ℕ → Fit → Type 0
+Fits line cells (Within end) = Held line (table cells line) end
+Fits line cells (Fit.Refused n) = LineAnswers line (refused n)
 
 -- whatever line the parts before `end` are of: its answer is in the n cells
 abbrev pub Comes : Table → ℕ → ℕ → List ℕ → ℕ → Type 0

@@ -23,12 +23,14 @@ use Rattle.leaves.specs.Source.{source}
 use Rattle.token_tests.specs.declared.Found.{Found}
 use Rattle.token_tests.specs.declared.Found.the-variants.{At, Nowhere}
 use Rattle.token_tests.specs.Reply.{OverLimit, First}
-use Rattle.measure.specs.declared.Measured.{Measured}
-use Rattle.measure.specs.Made.{Measures}
-use Rattle.measure.specs.Bridge.{parts-size, within-depth}
+use Rattle.expression_steps.specs.declared.Built.{Built}
+use Rattle.expression_reader.specs.Reads.{Whole, Reads, parts-size, within-depth}
 use Rattle.line.specs.declared.tests.Verdict.{Verdict}
 use Rattle.line.specs.declared.tests.Verdict.the-variants.{Fine, Refused}
-use Rattle.line.specs.Steps.{Lexed, Parsed, Fitting, Parses, Fits}
+use Rattle.parts.specs.Part.{table}
+use Rattle.line.specs.declared.tests.Fit.{Fit}
+use Rattle.line.specs.declared.tests.Fit.the-variants as Fit
+use Rattle.line.specs.Steps.{Lexed, Parsed, Fitting, Held, Parses, Fits}
 use Rattle.line.specs.Stages.{few-tokens, few-open, no-sentence, sentence, uses, nothing-left-out, over-limit, deep, long-lists, too-many-parts, within-limits}
 use Rattle.columns.specs.Columns.{as-many}
 use Rattle.columns.specs.Clean.{clean}
@@ -88,27 +90,25 @@ module _ {line kinds places lengths : List ℕ} where
       none-over e i t a b =
           subst (First OverLimit (source line kinds places lengths)) e first (p .tokens) (p .its) (p .stand) (t .place) (record { index = i; token = t; there = a; breach = b; place = refl })
 
-    module _ {m : Measured} (measures : Measures anywhere kinds 0 m) where
-      measured : (m .parts ≡ parts (p .expression)) × (m .depth ≡ depth (p .expression)) × (m .longest ≡ longest-list (p .expression))
-      measured =
-          let x = measures .done (source line kinds places lengths) refl 0 (p .tokens) [] (p .expression) (p .stand) (p .tree) nothing-behind (few-open (p .its) (let z : 2 < 5 = omega arith in z) (p .before)) in
-          (x .2, x .3, x .4)
+    module _ {x y : List ℕ} {m : Built} (reads : Reads anywhere (source line kinds places lengths) x y 0 0 m) where
+      pub read : Whole (source line kinds places lengths) x y 0 [] (p .expression) m
+      read = reads .done 0 (p .tokens) [] (p .expression) (p .stand) (p .tree) nothing-behind (few-open (p .its) (let z : 2 < 5 = omega arith in z) (p .before))
 
       pub too-deep : depth-limit < m .depth → LineAnswers line (refused 6)
-      too-deep h = let e = measured .1 in deep (p .its) (p .tree) (p .before) (omega arith)
+      too-deep h = let e = read .depth in deep (p .its) (p .tree) (p .before) (omega arith)
 
       pub too-long : list-limit < m .longest → LineAnswers line (refused 6)
-      too-long h = let e = measured .2 in long-lists (p .its) (p .tree) (p .before) (omega arith)
+      too-long h = let e = read .longest in long-lists (p .its) (p .tree) (p .before) (omega arith)
 
-      pub too-many : part-limit < m .parts → LineAnswers line (refused 6)
-      too-many h = let e = measured .0 in too-many-parts (p .its) (p .tree) (p .before) (omega arith)
+      pub too-many : part-limit < m .used → LineAnswers line (refused 6)
+      too-many h = let e = read .used in too-many-parts (p .its) (p .tree) (p .before) (omega arith)
 
-      pub fitting : ((i : ℕ) (t : Token) → View.At (p .tokens) i t → ¬ TokenBreach t) → m .depth ≤ depth-limit → m .longest ≤ list-limit → m .parts ≤ part-limit
+      pub fitting : ((i : ℕ) (t : Token) → View.At (p .tokens) i t → ¬ TokenBreach t) → m .depth ≤ depth-limit → m .longest ≤ list-limit → m .used ≤ part-limit
           → Fitting line kinds places lengths
       fitting f d l n =
-          let a = measured .0 in
-          let b = measured .1 in
-          let c = measured .2 in
+          let a = read .used in
+          let b = read .depth in
+          let c = read .longest in
           let e = p .expression in
           let dd : depth e ≤ depth-limit = omega arith in
           let ll : longest-list e ≤ list-limit = omega arith in
@@ -131,8 +131,9 @@ module _ (line kinds places lengths : List ℕ) {v : Verdict} where
   pub a-parse : Parses line kinds places lengths v → v ≡ Fine → Parsed line kinds places lengths
   a-parse h e = subst (Parses line kinds places lengths) e h
 
-  pub no-fit : {n : ℕ} → Fits line kinds places lengths v → v ≡ Refused n → LineAnswers line (refused n)
-  no-fit h e = subst (Fits line kinds places lengths) e h
+module _ (line cells : List ℕ) {v : Fit} where
+  pub no-fit : {n : ℕ} → Fits line cells v → v ≡ Fit.Refused n → LineAnswers line (refused n)
+  no-fit h e = subst (Fits line cells) e h
 
-  pub a-fit : Fits line kinds places lengths v → v ≡ Fine → Fitting line kinds places lengths
-  a-fit h e = subst (Fits line kinds places lengths) e h
+  pub a-fit : {end : ℕ} → Fits line cells v → v ≡ Fit.Within end → Held line (table cells line) end
+  a-fit h e = subst (Fits line cells) e h

@@ -3,7 +3,9 @@
 mod tests;
 mod valued;
 
+use limits::Expressions;
 use limits::TokenList;
+use tests::Fit;
 use tests::Verdict;
 use tokens::Read;
 use written::Answer;
@@ -35,9 +37,10 @@ fn tested(line: &[u8], kinds: &[u8], places: &[usize], lengths: &[usize], out: &
         }
         Verdict::Fine => {}
     }
-    match tests::fit(line, kinds, places, lengths) {
-        Verdict::Refused(n) => written::refused(n, out, 0),
-        Verdict::Fine => valued::evaluate(line, kinds, places, lengths, out),
+    let mut cells = [0u32; Expressions::CELLS];
+    match tests::fit(line, kinds, places, lengths, &mut cells) {
+        Fit::Refused(n) => written::refused(n, out, 0),
+        Fit::Within(end) => valued::value(&cells, line, end, out),
     }
 }
 

@@ -5,11 +5,21 @@ use limits::Expression;
 use limits::Expressions;
 use token_tests::Found;
 use values::List;
+ghost use mathlib.Core.Path.{_≡_};
+ghost use Prim.Native.Nat.{_*_};
+ghost use lib.ListN.{length};
+ghost use Rattle.paper_guideline.specs.Limits.{part-limit};
 ghost use Rattle.line.specs.Steps.{Lexed, Parsed, Parses, Fits};
 
 // What the tests find: nothing, or the number of the refusal.
 pub enum Verdict {
     Fine,
+    Refused(u8),
+}
+
+// Where the parts of the expression end, or the number of the refusal.
+pub enum Fit {
+    Within(usize),
     Refused(u8),
 }
 
@@ -33,26 +43,33 @@ pub fn parse(line: &[u8], kinds: &[u8], places: &[usize], lengths: &[usize]) -> 
     }
 }
 
-// Refusal 6: a token, the depth, a list or the number of parts is past its limit.
-pub fn fit(line: &[u8], kinds: &[u8], places: &[usize], lengths: &[usize]) -> Verdict
+// Refusal 6: a token, the depth, a list or the number of parts is past its limit. The parts of the expression are written, over the line's own bytes.
+pub fn fit(
+    line: &[u8],
+    kinds: &[u8],
+    places: &[usize],
+    lengths: &[usize],
+    cells: &mut [u32],
+) -> Fit
     requires { ⌜ Parsed (now line) (now kinds) (now places) (now lengths) ⌝ }
-    ensures { λ r. ⌜ Fits (now (line .entry)) (now (kinds .entry)) (now (places .entry)) (now (lengths .entry)) r ⌝ }
+    requires { ⌜ length (now cells) ≡ part-limit * 4 ⌝ }
+    ensures { λ r. ⌜ Fits (now (line .entry)) (now (cells .exit)) r ⌝ }
 {
     match token_tests::past_limit(line, kinds, places, lengths) {
         Found::At(_) => {
-            return Verdict::Refused(6);
+            return Fit::Refused(6);
         }
         Found::Nowhere => {}
     }
-    let m = measure::measure(kinds, 0, false);
+    let m = expression_reader::read(line, kinds, places, lengths, 0, false, cells, 0);
     if Expression::DEPTH < m.depth {
-        return Verdict::Refused(6);
+        return Fit::Refused(6);
     }
     if List::LIST_LIMIT < m.longest {
-        return Verdict::Refused(6);
+        return Fit::Refused(6);
     }
-    if Expressions::PARTS < m.parts {
-        return Verdict::Refused(6);
+    if Expressions::PARTS < m.used {
+        return Fit::Refused(6);
     }
-    Verdict::Fine
+    Fit::Within(m.used)
 }

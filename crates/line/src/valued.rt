@@ -1,10 +1,8 @@
 // The type and the value of a line that passed the tests, written as its answer.
 use limits::Expression;
-use limits::Expressions;
 ghost use lib.ListN.{length};
 ghost use Rattle.parts.specs.Part.{table};
-ghost use Rattle.line.specs.Reply.{Answered};
-ghost use Rattle.line.specs.Steps.{Blank, Fitting, Worth, Comes};
+ghost use Rattle.line.specs.Steps.{Blank, Worth, Comes};
 
 // The value of an expression of the type with the letter, whose parts end before `end`. There are no data items and no tasks.
 fn worth(cells: &[u32], bytes: &[u8], end: usize, letter: u8, out: &mut [u8]) -> usize
@@ -28,7 +26,7 @@ fn worth(cells: &[u32], bytes: &[u8], end: usize, letter: u8, out: &mut [u8]) ->
 }
 
 // Refusal 5, or the type and the value of the expression whose parts end before `end`.
-fn value(cells: &[u32], bytes: &[u8], end: usize, out: &mut [u8]) -> usize
+pub fn value(cells: &[u32], bytes: &[u8], end: usize, out: &mut [u8]) -> usize
     requires { ⌜ Blank (now out) ⌝ }
     ensures { λ r. ⌜ Comes (table (now (cells .entry)) (now (bytes .entry))) end (length (now (out .entry))) (now (out .exit)) r ⌝ }
 {
@@ -39,21 +37,4 @@ fn value(cells: &[u32], bytes: &[u8], end: usize, out: &mut [u8]) -> usize
         return written::refused(5, out, 0);
     }
     worth(cells, bytes, end, letter, out)
-}
-
-// The parts of the expression, whose texts stand in the line itself, and what they come to.
-pub fn evaluate(
-    line: &[u8],
-    kinds: &[u8],
-    places: &[usize],
-    lengths: &[usize],
-    out: &mut [u8],
-) -> usize
-    requires { ⌜ Fitting (now line) (now kinds) (now places) (now lengths) ⌝ }
-    requires { ⌜ Blank (now out) ⌝ }
-    ensures { λ r. ⌜ Answered (now (line .entry)) (length (now (out .entry))) (now (out .exit)) r ⌝ }
-{
-    let mut cells = [0u32; Expressions::CELLS];
-    let built = reader::read_expression(line, kinds, places, lengths, 0, false, &mut cells, 0);
-    value(&cells, line, built.used, out)
 }

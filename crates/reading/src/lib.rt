@@ -1,7 +1,4 @@
 // The whole of reading: a guideline's bytes to its tables, or number and place of its refusal by 1, 2, 3, 10 or 6.
-mod room;
-mod tables;
-
 use limits::TokenList;
 use stages::Verdict;
 use tokens::Read;
@@ -26,24 +23,9 @@ fn structured(
 ) -> Reading
     ensures { λ r. ⌜ Structured (now (text .entry)) (now (kinds .entry)) (now (places .entry)) (now (lengths .entry)) (now (rows .entry)) (table (now (cells .entry)) (now (bytes .entry))) (now (rows .exit)) (table (now (cells .exit)) (now (bytes .exit))) r ⌝ }
 {
-    let mut outline = [0u32; room::ROW_CELLS];
-    let short = room::short(rows.len(), cells.len(), bytes.len());
-    match stages::judge(text, kinds, places, lengths, &mut outline, short) {
+    match stages::judge(text, kinds, places, lengths, rows, cells, bytes) {
+        Verdict::Fine(n) => Reading::Reads(n),
         Verdict::Refused(n, p) => Reading::Refused(n, p),
-        Verdict::Fine(n) => {
-            tables::fill(
-                text,
-                kinds,
-                places,
-                lengths,
-                n,
-                &outline,
-                rows,
-                cells,
-                bytes,
-            );
-            Reading::Reads(n)
-        }
     }
 }
 
@@ -65,6 +47,6 @@ fn lexed(text: &[u8], rows: &mut [u32], cells: &mut [u32], bytes: &mut [u8]) -> 
 pub fn read(text: &[u8], rows: &mut [u32], cells: &mut [u32], bytes: &mut [u8]) -> Reading
     ensures { λ r. ⌜ Answered (now (text .entry)) (now (rows .entry)) (table (now (cells .entry)) (now (bytes .entry))) (now (rows .exit)) (table (now (cells .exit)) (now (bytes .exit))) r ⌝ }
 {
-    tables::blank(rows, cells, bytes);
+    stages::blank(rows, cells, bytes);
     lexed(text, rows, cells, bytes)
 }

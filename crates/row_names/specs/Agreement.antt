@@ -18,7 +18,7 @@ use Rattle.parts.specs.ItemLaws.{at-index, index-of}
 use Rattle.paper_tokens.specs.Tokens.{“data”, “=”, “component”, “source”}
 use Rattle.paper_grammar.specs.Laws.Ll.{isIn}
 use Rattle.paper_guideline.specs.Structure.{Name, Task, DataItem, TopLevel, task, data-item, tasks, data-items}
-use Rattle.outline.specs.Rows
+use Rattle.guideline_rows.specs.Rows
 use Rows.{Row, flatten, kind-of, name-of, attributes-rows, generic-row, placed-rows}
 use Rattle.row_names.specs.Pieces.{Piece, piece-first, piece-later, piece-at, in-whole, Located, locate, in-order, Mapped, map-at, at-map}
 use Rattle.row_names.specs.Selected.{select, Kept, kept-here, kept-past, kept-over, kept-at, kept-of, kept-rank, kept-index, rise, rank-rise}

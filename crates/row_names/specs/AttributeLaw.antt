@@ -20,7 +20,7 @@ use Structure.{Name, Placed, Assignment, ComponentAttribute, schedule-constraint
 use Structure.{Attribute, generic, precondition, wait-condition, terminate, postcondition, trigger, component, source, Task, DataItem, TopLevel, task, data-item, tasks, data-items}
 use Rattle.paper_guideline.specs.Parts.{Component, components, Source, sources}
 use Rattle.paper_guideline.specs.Names as Names
-use Rattle.outline.specs.Rows
+use Rattle.guideline_rows.specs.Rows
 use Rows.{Row, generic-row, component-row, source-row, placed-rows, attribute-rows, flatten, kind-of}
 use Rattle.row_names.specs.Pieces.{Piece, at-piece, piece-at, in-whole, in-order, one-piece, Located}
 use Rattle.row_names.specs.Shape.{Shaped, is-generic}

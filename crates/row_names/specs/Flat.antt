@@ -19,7 +19,7 @@ use Rattle.paper_guideline.specs.Structure
 use Structure.{Name, Placed, Assignment, ComponentAttribute, schedule-constraint, terminal, Generic, caption, description, SourceAttribute, source-generic, mandatory}
 use Structure.{class-word, Attribute, generic, precondition, wait-condition, terminate, postcondition, trigger, component, source, Class, plan, action, enquiry, Task, DataItem, TopLevel, task, data-item, tasks, data-items}
 use Rattle.paper_guideline.specs.Parts.{assignments, Component, components-of, components, Source, sources-of, sources}
-use Rattle.outline.specs.Rows
+use Rattle.guideline_rows.specs.Rows
 use Rows.{Row, a-task, a-data-item, with-expression, with-name, with-answer, a-postcondition, an-assignment, generic-row, component-row, source-row, placed-rows, attribute-rows, attributes-rows, flatten, kind-of, name-of}
 use Rattle.row_names.specs.Pieces.{each, Behind, at-either}
 use Rattle.row_names.specs.Selected.{select, select-append}

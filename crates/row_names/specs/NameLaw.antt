@@ -23,7 +23,7 @@ use Structure.{Name, Placed, Assignment, ComponentAttribute, schedule-constraint
 use Structure.{Attribute, generic, precondition, wait-condition, terminate, postcondition, trigger, component, source, Task, DataItem, TopLevel, task, data-item, tasks, data-items}
 use Rattle.paper_guideline.specs.Parts.{assignments, Component, components-of, components, Source, sources}
 use Rattle.paper_guideline.specs.Names as Names
-use Rattle.outline.specs.Rows
+use Rattle.guideline_rows.specs.Rows
 use Rows.{Row, with-name, generic-row, component-row, source-row, placed-rows, attribute-rows, attributes-rows, flatten, kind-of, name-of}
 use Rattle.row_names.specs.Pieces.{Piece, piece-at, in-whole, Located}
 use Rattle.row_names.specs.Selected.{Kept, kept-here, rise, rank-rise}

@@ -21,7 +21,7 @@ use Rattle.paper_guideline.specs.Structure
 use Structure.{Name, Placed, Assignment, ComponentAttribute, schedule-constraint, terminal, Generic, caption, description, SourceAttribute, source-generic, mandatory}
 use Structure.{Attribute, generic, precondition, wait-condition, terminate, postcondition, trigger, component, source, Task, DataItem, TopLevel, task, data-item, tasks}
 use Rattle.paper_guideline.specs.Parts.{Component, components-of, components, Source, sources-of, sources}
-use Rattle.outline.specs.Rows
+use Rattle.guideline_rows.specs.Rows
 use Rows.{Row, an-assignment, generic-row, component-row, source-row, placed-rows, attribute-rows, attributes-rows, flatten, kind-of, name-of}
 use Rattle.row_names.specs.Pieces
 use Pieces.{Piece, at-piece, piece-at, in-whole, Located, locate, in-order, one-piece, within, Mapped, map-at}

@@ -1,11 +1,12 @@
 -- What the tests from the grammar to the limits have to find: each test alone, and all in their order. Definitions only.
 use Prim.Native.Nat.{ℕ, _+_, _*_, _≤_, _<_}
 use mathlib.Core.Path.{_≡_}
-use mathlib.Core.Bool.{Bool, true, false}
+use mathlib.Core.Bool.{Bool, true, false, _||_}
 use mathlib.Core.Option.{Option, none, some}
 use mathlib.Core.List.{List}
+use lib.Dec.{ltb}
 use lib.ListN.{length, getD}
-use Rattle.paper_guideline.specs.Limits.{token-limit, task-limit, data-item-limit, part-limit, assignment-limit, source-limit}
+use Rattle.paper_guideline.specs.Limits.{guideline-limit, token-limit, task-limit, data-item-limit, part-limit, assignment-limit, source-limit}
 use Rattle.paper_grammar.specs.Nonterminals.{⟨process⟩}
 use Rattle.paper_grammar.specs.Sentence.{Sentence-of, First-bad}
 use Rattle.paper_tokens.specs.Lexical as Lexical
@@ -13,10 +14,14 @@ use Rattle.paper_guideline.specs.Structure.{TopLevel, Structure}
 use Rattle.paper_guideline.specs.Refusals as Refusals
 use Rattle.leaves.specs.Source.{source, Stand}
 use Rattle.columns.specs.Columns.{Lexed}
-use Rattle.outline.specs.Rows.{flatten}
-use Rattle.outline.specs.Made.{Outline, row-cells}
-use Rattle.survey.specs.declared.Totals.{Totals}
-use Rattle.survey.specs.Surveyed.{Surveyed}
+use Rattle.limits.specs.Limits.{row-cells}
+use Rattle.parts.specs.Part.{Table}
+use Rattle.blank.specs.Zeros.{zeros}
+use Rattle.guideline_rows.specs.Rows.{flatten}
+use Rattle.guideline_rows.specs.Encoded.{Encoded}
+use Rattle.guideline_rows.specs.OneEncoding.{AsLong}
+use Rattle.guideline_walk.specs.declared.Totals.{Totals}
+use Rattle.guideline_walk.specs.Surveyed.{Surveyed}
 use Rattle.token_tests.specs.declared.Found.{Found}
 use Rattle.token_tests.specs.declared.Found.the-variants.{At, Nowhere}
 use Rattle.stages.specs.declared.Verdict.{Verdict}
@@ -83,25 +88,37 @@ OverLimits text kinds places lengths t short r =
 
 -- ---- the whole
 
--- the rows y of an accepted text hold its structure, behind them the cells of x are kept, and it passes all stages up to the limits
-pub record Judged (text kinds places lengths x y : List ℕ) (short : Bool) (n : ℕ) : Type 0 where
-  pub tokens : List Lexical.Token
-  pub its : Lexical.Tokens text 0 tokens
-  pub stand : Stand (source text kinds places lengths) 0 tokens
+-- a lent table, of so many cells, is shorter than its least length
+abbrev pub is-short : ℕ → ℕ → ℕ → Bool
+is-short rows cells bytes = ltb rows row-cells || (ltb cells (part-limit * 4) || ltb bytes guideline-limit)
+
+abbrev pub Short : List ℕ → Table → Type 0
+Short x t = is-short (length x) (length (t .cells)) (length (t .bytes)) ≡ true
+
+-- the one empty pattern: all cells of tables as long as x and t are zero
+pub record Empty (x : List ℕ) (t : Table) (x′ : List ℕ) (t′ : Table) : Type 0 where
+  pub rows : x′ ≡ zeros x
+  pub parts : t′ .cells ≡ zeros (t .cells)
+  pub bytes : t′ .bytes ≡ zeros (t .bytes)
+
+-- the text has its structure, breaks no stage up to the limits, and the tables hold it, n rows, cell by cell
+pub record Accepted (text x : List ℕ) (t : Table) (x′ : List ℕ) (t′ : Table) (n : ℕ) : Type 0 where
   pub guideline : List TopLevel
-  pub structure : Structure tokens guideline
-  pub outline : Outline (source text kinds places lengths) y n (flatten guideline)
-  pub rest : (j : ℕ) → n * 8 ≤ j → getD y j 0 ≡ getD x j 0
-  pub passed : Passed (short ≡ true) text 5
+  pub read : Refusals.Read text guideline
+  pub passed : Passed (Short x t) text 5
+  pub count : n ≡ length (flatten guideline)
+  pub long : AsLong x′ x t′ t
+  pub encoded : Encoded (flatten guideline) x′ t′
 
-abbrev pub Outcome : List ℕ → List ℕ → List ℕ → List ℕ → List ℕ → List ℕ → Bool → Verdict → Type 0
-Outcome text kinds places lengths x y short (Fine n) = Judged text kinds places lengths x y short n
-Outcome text kinds places lengths x y short (Refused n p) = Turned (short ≡ true) text n p
+-- the tables x, t before, and x′, t′ after
+abbrev pub Outcome : List ℕ → List ℕ → Table → List ℕ → Table → Verdict → Type 0
+Outcome text x t x′ t′ (Fine n) = Accepted text x t x′ t′ n
+Outcome text x t x′ t′ (Refused n p) = Turned (Short x t) text n p × Empty x t x′ t′
 
--- the same, where the tokens are a guideline of which nothing is left out
-pub record Limited (text kinds places lengths x y : List ℕ) (short : Bool) (r : Verdict) : Type 0 where
-  pub outcome : (l : Lexed text kinds places lengths) (g : List TopLevel) → Structure (l .tokens) g → row-cells ≤ length x → Passed (short ≡ true) text 4
-      → Outcome text kinds places lengths x y short r
+-- over blank tables, where the tokens are a guideline of which nothing is left out
+pub record Limited (text kinds places lengths x : List ℕ) (t : Table) (x′ : List ℕ) (t′ : Table) (r : Verdict) : Type 0 where
+  pub outcome : (l : Lexed text kinds places lengths) (g : List TopLevel) → Structure (l .tokens) g → Passed (Short x t) text 4 → Empty x t x t → Outcome text x t x′ t′ r
 
-pub record Judges (text kinds places lengths x y : List ℕ) (short : Bool) (r : Verdict) : Type 0 where
-  pub outcome : Lexed text kinds places lengths → row-cells ≤ length x → Outcome text kinds places lengths x y short r
+-- over blank tables
+pub record Judges (text kinds places lengths x : List ℕ) (t : Table) (x′ : List ℕ) (t′ : Table) (r : Verdict) : Type 0 where
+  pub outcome : Lexed text kinds places lengths → Empty x t x t → Outcome text x t x′ t′ r

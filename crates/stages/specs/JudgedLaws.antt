@@ -1,14 +1,14 @@
 -- From what each test finds to the outcome of all: the smallest of the three places of the limits, and the stages in their order.
-use Prim.Native.Nat.{ℕ, zero, suc, _+_, _≤_, _<_}
+use Prim.Native.Nat.{ℕ, zero, suc, _+_, _*_, _≤_, _<_}
 use native.Mathlib.Omega.{arith}
 use mathlib.Core.Path.{_≡_, refl, sym, ap, subst, _∙_}
-use mathlib.Core.Bool.{Bool, true, false}
+use mathlib.Core.Bool.{Bool, true, false, _||_}
 use mathlib.Core.Logic.{_⊎_, inl, inr, ⊎-elim}
 use mathlib.Core.Option.{Option, none, some}
 use mathlib.Core.List.{List, [], _∷_}
 use lib.Dec.{leb, ltb}
-use lib.ListN.{length, getD}
-use borrow.Author.Tests.{leb-true, leb-false, le-leb, lt-leb, ltb-true, ltb-false}
+use lib.ListN.{length, getD, replicate}
+use borrow.Author.Tests.{leb-true, leb-false, le-leb, lt-leb, ltb-true, ltb-false, lt-ltb}
 use Rattle.paper_expressions.specs.Laws.Tests.{two}
 use Rattle.paper_expressions.specs.View as View
 use Rattle.paper_guideline.specs.Limits.{guideline-limit, token-limit, task-limit, data-item-limit, part-limit, assignment-limit, source-limit}
@@ -21,15 +21,21 @@ use Rattle.paper_grammar.specs.Nonterminals.{⟨process⟩}
 use Rattle.paper_guideline.specs.Structure.{TopLevel, Structure}
 use Rattle.paper_guideline.specs.Laws.CompleteLaws.{some-structure}
 use Rattle.paper_guideline.specs.Refusals as Refusals
-use Refusals.{TooManyOpen, long, many-tokens, many-open, text-stage, count-stage}
+use Refusals.{TooManyOpen, long, many-tokens, many-open, text-stage, count-stage, limit-stage, token-breach, many-parts, total-parts}
 use Rattle.leaves.specs.Source.{Source, source, Stand, at-end, at-token}
-use Rattle.steps.specs.Levels.{stand-length}
-use Rattle.outline.specs.Rows.{flatten}
-use Rattle.outline.specs.Made.{Outline, Given, Outlines, row-cells}
-use Rattle.outline.specs.declared.Outlined.{Outlined}
-use Rattle.survey.specs.declared.Totals.{Totals}
-use Rattle.survey.specs.Surveyed.{Surveyed, Surveys}
-use Rattle.survey.specs.TallyLaws.{Too-large}
+use Rattle.expression_steps.specs.Levels.{stand-length}
+use Rattle.limits.specs.Limits.{row-cells}
+use Rattle.parts.specs.Part.{Table, table}
+use Rattle.blank.specs.Zeros.{zero-at, zeros}
+use Rattle.pool.specs.Pooled.{Fits}
+use Rattle.guideline_rows.specs.Rows.{flatten}
+use Rattle.guideline_rows.specs.FlatLaws.{structure-flat, few-rows}
+use Rattle.guideline_rows.specs.Room.{room-enough}
+use Rattle.guideline_rows.specs.TallyLaws.{Too-large}
+use Rattle.guideline_walk.specs.declared.Totals.{Totals}
+use Rattle.guideline_walk.specs.Made.{Given, Walks, Walked, Roomy}
+use Rattle.guideline_walk.specs.Encodes.{laid-encoded}
+use Rattle.guideline_walk.specs.Surveyed.{Surveyed, surveyed, all-parts}
 use Rattle.token_tests.specs.declared.Found.{Found}
 use Rattle.token_tests.specs.declared.Found.the-variants.{At, Nowhere}
 use Rattle.token_tests.specs.Reply.{First, OverLimit}
@@ -39,7 +45,9 @@ use Rattle.stages.specs.Least.{Least, least, Either, least-either}
 use Rattle.stages.specs.Stages.{Passed, PlaceOf, of-token, of-end, early-passed, grammar-refused, grammar-passed, left-out-refused, left-out-passed}
 use Rattle.stages.specs.Limits.{CountOver, tasks-over, data-items-over, parts-over, assignments-over, sources-over, short-over, WholeOver, Over, limit-refused, limit-passed}
 use Rattle.columns.specs.Columns.{Lexed}
-use Rattle.stages.specs.Judged.{spot, Places, BadAt, Sentences, Large, SomeOver, tasks, items, parts, assignments, sources, tables, NoneOver, AnyOver, Whole, OverLimits, Judged, Outcome, Limited, Judges}
+use Rattle.stages.specs.Judged.{spot, Places, BadAt, Sentences, Large, SomeOver, tasks, items, parts, assignments, sources, tables, NoneOver, AnyOver, Whole, OverLimits, is-short, Short, Empty, Accepted, Outcome, Limited, Judges}
+use Rattle.columns.specs.Clean.{clean}
+use Rattle.paper_guideline.specs.Parts.{expressions}
 
 contra : {A : Type 0} → true ≡ false → A
 contra e = absurd (let z : _≡_ {A = ℕ} 0 1 = cc in omega arith)
@@ -122,15 +130,11 @@ module _ {text kinds places lengths : List ℕ} (l : Lexed text kinds places len
   few-kinds : length kinds ≤ token-limit
   few-kinds = let e = stand-length (l .stand) in let h = few-tokens in omega arith
 
-  pub given : (x : List ℕ) (g : List TopLevel) → Structure (l .tokens) g → row-cells ≤ length x → Given (source text kinds places lengths) (length x) (l .tokens) g
-  given x g s room = record {
-    stand = l .stand;
-    structure = s;
-    brackets = λ q h. l .passed count-stage q (omega arith) (many-open (l .its) h);
-    few = few-tokens;
-    short = at-most (length text) guideline-limit (λ h. l .passed text-stage (length text) (omega arith) (long h));
-    room = room;
-  }
+  short-text : length text ≤ guideline-limit
+  short-text = at-most (length text) guideline-limit (λ h. l .passed text-stage (length text) (omega arith) (long h))
+
+  given : (g : List TopLevel) → Structure (l .tokens) g → Given (source text kinds places lengths) (l .tokens) g
+  given g s = record { stand = l .stand; structure = s; brackets = λ q h. l .passed count-stage q (omega arith) (many-open (l .its) h); few = few-tokens; short = short-text }
 
 token-at : (c : Source) (i k : ℕ) (ts : List Token) → Stand c i ts → k < length ts → PlaceOf (c .text) ts k (getD (c .places) (i + k) 0)
 token-at c i k [] (at-end e) h = absurd (omega arith)
@@ -158,64 +162,108 @@ place-there text kinds places lengths l i p h w =
     subst (λ (q : ℕ). PlaceOf text (l .tokens) i q) (sym (w .behind m)) (of-end (omega arith)))
     (two (ltb i (length kinds)))
 
+-- ---- lent tables
+
+neither : (p q : Bool) → ¬ (p || q ≡ true) → ¬ (p ≡ true) × ¬ (q ≡ true)
+neither true q h = absurd (h refl)
+neither false q h = (λ e. contra (sym e), h)
+
+long-enough : (n m : ℕ) → ¬ (ltb n m ≡ true) → m ≤ n
+long-enough n m h = at-most m n (λ k. h (lt-ltb n m k))
+
+-- every table has its least length
+record Wide (r c b : ℕ) : Type 0 where
+  rows : row-cells ≤ r
+  cells : part-limit * 4 ≤ c
+  bytes : guideline-limit ≤ b
+
+wide : (r c b : ℕ) → ¬ (is-short r c b ≡ true) → Wide r c b
+wide r c b h =
+    let a = neither (ltb r row-cells) (ltb c (part-limit * 4) || ltb b guideline-limit) h in
+    let d = neither (ltb c (part-limit * 4)) (ltb b guideline-limit) (a .1) in
+    record { rows = long-enough r row-cells (a .0); cells = long-enough c (part-limit * 4) (d .0); bytes = long-enough b guideline-limit (d .1) }
+
+-- tables that were cleared, which were blank before
+same-empty : {x y : List ℕ} {t u : Table} {z : List ℕ} {v : Table} → length y ≡ length x → length (u .cells) ≡ length (t .cells) → length (u .bytes) ≡ length (t .bytes) → Empty y u z v → Empty x t z v
+same-empty a b c e = record { rows = e .rows ∙ ap (λ (n : ℕ). replicate n 0) a; parts = e .parts ∙ ap (λ (n : ℕ). replicate n 0) b; bytes = e .bytes ∙ ap (λ (n : ℕ). replicate n 0) c }
+
 -- ---- the outcome
 
-module _ (text kinds places lengths : List ℕ) (short : Bool) where
-  pub bad-token : (x : List ℕ) (p : ℕ) → Sentences text kinds places (At p) → Judges text kinds places lengths x x short (Refused 3 p)
-  bad-token x p s = record {
-    outcome = λ l room.
-        let b = s (few-kinds l) in
-        grammar-refused (short ≡ true) text (l .its) (l .are) (early-passed (short ≡ true) text (l .passed)) (b .bad)
-        (place-there text kinds places lengths l (b .index) p (b .bad .within) (b .place));
+module _ (text kinds places lengths x : List ℕ) (t : Table) where
+  pub bad-token : (p : ℕ) → Sentences text kinds places (At p) → Judges text kinds places lengths x t x t (Refused 3 p)
+  bad-token p s = record {
+    outcome = λ l e.
+        let b = s (few-kinds l) in (
+          grammar-refused (Short x t) text (l .its) (l .are) (early-passed (Short x t) text (l .passed)) (b .bad)
+              (place-there text kinds places lengths l (b .index) p (b .bad .within) (b .place)),
+          e,
+        );
   }
 
-  sentence-passed : (l : Lexed text kinds places lengths) → Sentence-of ⟨process⟩ kinds → Passed (short ≡ true) text 3
-  sentence-passed l d = grammar-passed (short ≡ true) text (l .its) (l .are) (early-passed (short ≡ true) text (l .passed)) d
+  sentence-passed : (l : Lexed text kinds places lengths) → Sentence-of ⟨process⟩ kinds → Passed (Short x t) text 3
+  sentence-passed l d = grammar-passed (Short x t) text (l .its) (l .are) (early-passed (Short x t) text (l .passed)) d
 
-  pub left-out-there : (x : List ℕ) (p : ℕ) → Sentence-of ⟨process⟩ kinds → First LeftOut (source text kinds places lengths) (At p)
-      → Judges text kinds places lengths x x short (Refused 10 p)
-  left-out-there x p d f = record {
-    outcome = λ l room.
+  pub left-out-there : (p : ℕ) → Sentence-of ⟨process⟩ kinds → First LeftOut (source text kinds places lengths) (At p) → Judges text kinds places lengths x t x t (Refused 10 p)
+  left-out-there p d f = record {
+    outcome = λ l e.
         let h = f (l .tokens) (l .its) (l .stand) in
-        left-out-refused (short ≡ true) text (l .its) (l .are) (sentence-passed l d) (h .0) (h .1);
+        (left-out-refused (Short x t) text (l .its) (l .are) (sentence-passed l d) (h .0) (h .1), e);
   }
 
-  pub nothing-left-out : {x y : List ℕ} {r : Verdict} → Sentence-of ⟨process⟩ kinds → First LeftOut (source text kinds places lengths) Nowhere
-      → Limited text kinds places lengths x y short r → Judges text kinds places lengths x y short r
+  pub nothing-left-out : {y : List ℕ} {u : Table} {r : Verdict} → Sentence-of ⟨process⟩ kinds → First LeftOut (source text kinds places lengths) Nowhere
+      → Limited text kinds places lengths x t y u r → Judges text kinds places lengths x t y u r
   nothing-left-out d f m = record {
-    outcome = λ l room.
+    outcome = λ l e.
         let n = f (l .tokens) (l .its) (l .stand) in
         let g = some-structure (l .are) d n in
-        m .outcome l (g .0) (g .1) room (left-out-passed (short ≡ true) text (l .its) (l .are) (sentence-passed l d) n);
+        m .outcome l (g .0) (g .1) (left-out-passed (Short x t) text (l .its) (l .are) (sentence-passed l d) n) e;
   }
 
-  module _ {x y : List ℕ} {o : Outlined} {t : Totals} (oh : Outlines (source text kinds places lengths) x y o) (sh : Surveys kinds y (o .n) t) where
-    surveyed : (l : Lexed text kinds places lengths) (g : List TopLevel) → Structure (l .tokens) g → row-cells ≤ length x
-        → Outline (source text kinds places lengths) y (o .n) (flatten g) × Surveyed g t × (o .ok ≡ true)
-    surveyed l g s room =
-        let v = given l x g s room in
-        let d = oh .done (l .tokens) g v in
-        (d .1, sh (source text kinds places lengths) refl (length x) (l .tokens) g v (d .1), d .0)
+module _ {text kinds places lengths x y k l b d : List ℕ} {w : Totals} {short : Bool} (es : short ≡ is-short (length x) (length k) (length b))
+    (walks : Walks (source text kinds places lengths) x y k l b d w) where
+  walked : (v : Lexed text kinds places lengths) (g : List TopLevel) → Structure (v .tokens) g → Walked (source text kinds places lengths) x y k l b d (flatten g) w
+  walked v g s = walks .done (v .tokens) g (given v g s)
 
-    pub past-limit : (p : ℕ) → OverLimits text kinds places lengths t short (At p) → Limited text kinds places lengths x y short (Refused 6 p)
-    past-limit p h = record {
-      outcome = λ l g s room before.
-          let v = surveyed l g s room in
-          limit-refused (short ≡ true) text (l .its) s before (h (l .tokens) g (l .its) (l .stand) s (v .1));
-    }
+  -- what is found goes by the lent tables
+  by-tables : (r : Found) → OverLimits text kinds places lengths w short r → (v : Lexed text kinds places lengths) (g : List TopLevel) (s : Structure (v .tokens) g) → Least (Over (Short x (table k b)) text (v .its) s) (spot r)
+  by-tables r h v g s =
+      subst (λ (q : Bool). Least (Over (q ≡ true) text (v .its) s) (spot r)) es (h (v .tokens) g (v .its) (v .stand) s (surveyed g (walked v g s .tally)))
 
-    pub all-within : OverLimits text kinds places lengths t short Nowhere → Limited text kinds places lengths x y short (Fine (o .n))
-    all-within h = record {
-      outcome = λ l g s room before.
-          let v = surveyed l g s room in
-          record {
-            tokens = l .tokens;
-            its = l .its;
-            stand = l .stand;
-            guideline = g;
-            structure = s;
-            outline = v .0;
-            rest = oh .rest (v .2);
-            passed = limit-passed (short ≡ true) text (l .its) s before (h (l .tokens) g (l .its) (l .stand) s (v .1));
-          };
-    }
+  pub past-limit : {y′ l′ d′ : List ℕ} (p : ℕ) → OverLimits text kinds places lengths w short (At p) → length y ≡ length x → length l ≡ length k → length d ≡ length b → Empty y (table l d) y′ (table l′ d′)
+      → Limited text kinds places lengths x (table k b) y′ (table l′ d′) (Refused 6 p)
+  past-limit p h ly ll ld e = record { outcome = λ v g s before blank. (limit-refused (Short x (table k b)) text (v .its) s before (by-tables (At p) h v g s), same-empty ly ll ld e) }
+
+  -- there is room for a guideline that breaks no limit
+  roomy : (v : Lexed text kinds places lengths) (g : List TopLevel) → Structure (v .tokens) g → Passed (Short x (table k b)) text 5 → Roomy (source text kinds places lengths) x k b (flatten g)
+  roomy v g s passed =
+      let r = wide (length x) (length k) (length b) (λ q. passed limit-stage (length text) (omega arith) (Refusals.short-table q)) in
+      let r1 = r .rows in
+      let r2 = r .cells in
+      let f = few-rows s in
+      let ft = few-tokens v in
+      let rd : Refusals.Read text g = record { tokens = v .tokens; its = v .its; structure = s } in
+      let p : total-parts (expressions g) ≤ part-limit = at-most (total-parts (expressions g)) part-limit (λ q. passed limit-stage (length text) (omega arith) (many-parts rd q)) in
+      let q = all-parts g in
+      record {
+        sound = record { clean = clean (v .stand) (λ i t a b. passed limit-stage (t .place) (omega arith) (token-breach (v .its) a b)); short = short-text v };
+        cells = omega arith;
+        few = omega arith;
+        parts = omega arith;
+        bytes = room-enough (v .its) (structure-flat s) (short-text v) (r .bytes);
+      }
+
+  pub all-within : OverLimits text kinds places lengths w short Nowhere → length y ≡ length x → length l ≡ length k → length d ≡ length b
+      → Limited text kinds places lengths x (table k b) y (table l d) (Fine (w .rows))
+  all-within h ly ll ld = record {
+    outcome = λ v g s before e.
+        let passed = limit-passed (Short x (table k b)) text (v .its) s before (by-tables Nowhere h v g s) in
+        let wk = walked v g s in
+        record {
+          guideline = g;
+          read = record { tokens = v .tokens; its = v .its; structure = s };
+          passed = passed;
+          count = wk .tally .count;
+          long = record { cells = ly; parts = ll; bytes = ld };
+          encoded = laid-encoded (zero-at x x (e .rows)) (zero-at k k (e .parts)) (zero-at b b (e .bytes)) (wk .laid (roomy v g s passed));
+        };
+  }

@@ -18,7 +18,7 @@ use Rattle.paper_guideline.specs.Refusals
 use Refusals.{Stage, limit-stage, turn, Breach, Refused, Read, TokenBreach, total-parts}
 use Refusals.{token-breach, too-deep, long-list, many-tasks, many-data-items, many-parts, many-assignments, many-sources, short-table}
 use Rattle.token_tests.specs.Reply.{OverLimit}
-use Rattle.survey.specs.TallyLaws.{Too-large, breaks-large}
+use Rattle.guideline_rows.specs.TallyLaws.{Too-large, breaks-large}
 use Rattle.stages.specs.Stages.{Passed, passed-next, Turned}
 use Rattle.stages.specs.Least.{Least, Either}
 

@@ -1,9 +1,13 @@
-// The stages of load from the grammar to the limits: what the tokens of a text are refused with, and where; or the rows of their structure.
+// The stages of load from the grammar to the limits: what the tokens of a text are refused with, and where; or the tables of their structure.
 mod limiting;
+mod room;
 
 ghost use mathlib.Core.Path.{_≡_};
 ghost use mathlib.Core.Bool.{true};
-ghost use Rattle.stages.specs.Judged.{Places, Sentences, Judges, Limited};
+ghost use Rattle.parts.specs.Part.{table};
+ghost use Rattle.stages.specs.Judged.{Places, Sentences, Empty, Judges, Limited};
+use blank::clear;
+use blank::clear_bytes;
 use grammar::Answer;
 use grammar::Start;
 use leaves::cell;
@@ -37,35 +41,49 @@ fn first_bad(text: &[u8], kinds: &[u8], places: &[usize]) -> Found
     }
 }
 
-// The limits that are tested after what is left out, over the rows of the structure.
+// All tables, set to zero.
+pub fn blank(rows: &mut [u32], cells: &mut [u32], bytes: &mut [u8])
+    ensures { λ _. ⌜ Empty (now (rows .entry)) (table (now (cells .entry)) (now (bytes .entry))) (now (rows .exit)) (table (now (cells .exit)) (now (bytes .exit))) ⌝ }
+{
+    clear(rows);
+    clear(cells);
+    clear_bytes(bytes);
+}
+
+// The limits that are tested after what is left out, on one walk over the tokens.
 fn within_limits(
     text: &[u8],
     kinds: &[u8],
     places: &[usize],
     lengths: &[usize],
     rows: &mut [u32],
-    short: bool,
+    cells: &mut [u32],
+    bytes: &mut [u8],
 ) -> Verdict
-    ensures { λ r. ⌜ Limited (now (text .entry)) (now (kinds .entry)) (now (places .entry)) (now (lengths .entry)) (now (rows .entry)) (now (rows .exit)) short r ⌝ }
+    ensures { λ r. ⌜ Limited (now (text .entry)) (now (kinds .entry)) (now (places .entry)) (now (lengths .entry)) (now (rows .entry)) (table (now (cells .entry)) (now (bytes .entry))) (now (rows .exit)) (table (now (cells .exit)) (now (bytes .exit))) r ⌝ }
 {
-    let o = outline::outline(text, kinds, places, lengths, rows);
-    let t = survey::survey(kinds, rows, o.n);
-    match over_limits(text, kinds, places, lengths, t, short) {
-        Found::At(p) => Verdict::Refused(6, p),
-        Found::Nowhere => Verdict::Fine(o.n),
+    let short = room::short(rows.len(), cells.len(), bytes.len());
+    let w = guideline_walk::walk(text, kinds, places, lengths, rows, cells, bytes);
+    match over_limits(text, kinds, places, lengths, w, short) {
+        Found::At(p) => {
+            blank(rows, cells, bytes);
+            Verdict::Refused(6, p)
+        }
+        Found::Nowhere => Verdict::Fine(w.rows),
     }
 }
 
-// Tests 3, 10 and 6, in this order; `short` says that a lent table is too short. The rows of an accepted text are written.
+// Tests 3, 10 and 6, in this order, over blank tables: those of an accepted text are written, and those of a refused one blank again.
 pub fn judge(
     text: &[u8],
     kinds: &[u8],
     places: &[usize],
     lengths: &[usize],
     rows: &mut [u32],
-    short: bool,
+    cells: &mut [u32],
+    bytes: &mut [u8],
 ) -> Verdict
-    ensures { λ r. ⌜ Judges (now (text .entry)) (now (kinds .entry)) (now (places .entry)) (now (lengths .entry)) (now (rows .entry)) (now (rows .exit)) short r ⌝ }
+    ensures { λ r. ⌜ Judges (now (text .entry)) (now (kinds .entry)) (now (places .entry)) (now (lengths .entry)) (now (rows .entry)) (table (now (cells .entry)) (now (bytes .entry))) (now (rows .exit)) (table (now (cells .exit)) (now (bytes .exit))) r ⌝ }
 {
     match first_bad(text, kinds, places) {
         Found::At(p) => {
@@ -79,5 +97,5 @@ pub fn judge(
         }
         Found::Nowhere => {}
     }
-    within_limits(text, kinds, places, lengths, rows, short)
+    within_limits(text, kinds, places, lengths, rows, cells, bytes)
 }

@@ -2,12 +2,12 @@
 ghost use mathlib.Core.Path.{_≡_};
 ghost use Rattle.stages.specs.Least.{least};
 ghost use Rattle.stages.specs.Judged.{spot, Large, Whole, OverLimits, AnyOver};
+use guideline_walk::Totals;
 use limits::Assignments;
 use limits::DataItems;
 use limits::Expressions;
 use limits::Sources;
 use limits::Tasks;
-use survey::Totals;
 use token_tests::Found;
 
 // The smaller of two places, if there are any.

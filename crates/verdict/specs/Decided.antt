@@ -4,6 +4,7 @@ use mathlib.Core.List.{List}
 use Rattle.paper_guideline.specs.Structure.{TopLevel}
 use Rattle.paper_guideline.specs.Refusals as Refusals
 use Refusals.{Stage, turn, Breach}
+use Rattle.stages.specs.Stages.{Turned}
 use Rattle.verdict.specs.declared.Verdict.{Verdict}
 use Rattle.verdict.specs.declared.Verdict.the-variants.{Reads, Refused}
 
@@ -15,4 +16,4 @@ pub record Accepted (text : List ℕ) : Type 0 where
 
 abbrev pub Decides : List ℕ → Verdict → Type 0
 Decides text Reads = Accepted text
-Decides text (Refused number place) = Refusals.Refused ⊥ text number place
+Decides text (Refused number place) = Turned ⊥ text number place

@@ -1,6 +1,6 @@
--- From the reply of reading to what is decided. No table is short, so a breach is one without short tables.
+-- From the reply of reading to what is decided: no table is short, so a breach is one without short tables. And only one reply fits.
 use Prim.Native.Nat.{ℕ, _*_, _≤_}
-use mathlib.Core.Path.{_≡_, subst}
+use mathlib.Core.Path.{_≡_, refl, subst}
 use mathlib.Core.List.{List}
 use Rattle.paper_expressions.specs.Laws.Tests.{contra}
 use Rattle.paper_guideline.specs.Refusals as Refusals
@@ -10,12 +10,16 @@ use Refusals.{many-tasks, many-data-items, many-parts, many-assignments, many-so
 use lib.ListN.{length}
 use Rattle.paper_guideline.specs.Limits.{guideline-limit, part-limit}
 use Rattle.parts.specs.Part.{Table}
-use Rattle.outline.specs.Made.{row-cells}
+use Rattle.limits.specs.Limits.{row-cells}
 use Rattle.reading.specs.declared.Reading.{Reading}
 use Rattle.reading.specs.declared.Reading.the-variants as Reading
-use Rattle.reading.specs.Reply.{Short, Reply, Answered}
-use Rattle.stages.specs.Stages.{up}
-use Rattle.verdict.specs.Decided.{Accepted}
+use Rattle.reading.specs.Reply.{Reply, Answered}
+use Rattle.stages.specs.Stages.{up, Turned}
+use Rattle.stages.specs.Judged.{Short}
+use Rattle.paper_guideline.specs.Laws.RefusalLaws.{one-answer}
+use Rattle.verdict.specs.declared.Verdict.{Verdict}
+use Rattle.verdict.specs.declared.Verdict.the-variants.{Reads, Refused}
+use Rattle.verdict.specs.Decided.{Accepted, Decides}
 
 -- ---- no table is short
 
@@ -41,13 +45,16 @@ module _ {Short : Type 0} (never : ¬ Short) {text : List ℕ} where
   down (name-breach a b) = name-breach a b
   down (no-type a b c) = no-type a b c
 
-  refused : {n p : ℕ} → Refusals.Refused Short text n p → Refusals.Refused ⊥ text n p
-  refused r = record {
-    stage = r .stage;
-    broken = down (r .broken);
-    numbered = r .numbered;
-    smallest = λ b. r .smallest (up b);
-    first = λ m b. r .first m (up b);
+  turned-down : {n p : ℕ} → Turned Short text n p → Turned ⊥ text n p
+  turned-down h = record {
+    refused = record {
+      stage = h .refused .stage;
+      broken = down (h .refused .broken);
+      numbered = h .refused .numbered;
+      smallest = λ b. h .refused .smallest (up b);
+      first = λ m b. h .refused .first m (up b);
+    };
+    stage = h .stage;
   }
 
 -- ---- tables with all cells
@@ -62,5 +69,19 @@ module _ {text x z : List ℕ} {t u : Table} {r : Reading} (a : Answered text x 
       let h = subst (Reply text x t z u) e (a .reply) in
       record { guideline = h .guideline; read = h .read; passed = λ s q l b. h .passed s q l (up b) }
 
-  pub turned : {n p : ℕ} → r ≡ Reading.Refused n p → Refusals.Refused ⊥ text n p
-  turned e = refused never (subst (Reply text x t z u) e (a .reply) .0 .refused)
+  pub turned : {n p : ℕ} → r ≡ Reading.Refused n p → Turned ⊥ text n p
+  turned e = turned-down never (subst (Reply text x t z u) e (a .reply) .0)
+
+-- ---- only one reply fits
+
+not-both : {A : Type 0} {text : List ℕ} {n p : ℕ} → Accepted text → Turned ⊥ text n p → A
+not-both {p = p} a b = absurd (a .passed (b .refused .stage) p (b .stage) (b .refused .broken))
+
+same-refusal : {n m p q : ℕ} → Refusals.refused n p ≡ Refusals.refused m q → Refused n p ≡ Refused m q
+same-refusal {n} {m} {p} {q} e = let x : n ≡ m = cc in let y : p ≡ q = cc in cc
+
+pub one-reply : (text : List ℕ) (r s : Verdict) → Decides text r → Decides text s → r ≡ s
+one-reply text Reads Reads a b = refl
+one-reply text Reads (Refused n p) a b = not-both a b
+one-reply text (Refused n p) Reads a b = not-both b a
+one-reply text (Refused n p) (Refused m q) a b = same-refusal (one-answer (Refusals.is-refused (a .refused)) (Refusals.is-refused (b .refused)))

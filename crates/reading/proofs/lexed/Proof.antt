@@ -4,10 +4,6 @@ use Rattle.reading.specs.Laws.{no-columns, turning, going}
 use borrow.Author.Needs.{needs}
 use Rattle.reading.proofs.lexed.Statement.{statement}
 use Rattle.reading.proofs.lexed.Tie as tie
-use Rattle.reading.proofs.lexed.Reads as reads
-use Rattle.reading.proofs.lexed.Lts as lts
-use Rattle.reading.proofs.structured.Reads as structured-reads
-use Rattle.tokens.proofs.tokens.Reads as tokens-reads
 
 array-share-prefix-kinds : tie.Need-array-share-prefix-kinds
 array-share-prefix-kinds c = few (c .before .before .before .before .before .before .before .before .before .before .before .before .before .before .args .text .now) (c .before .before .before .before .before .before .tokens .last .1 .0) (c .before .before .before .before .before .before .tokens .last .1 .1 .0) (c .before .before .before .before .before .before .tokens .last .1 .1 .1 .0) (c .before .before .before .before .before .before .tokens .ensures) (c .before .n2 .given .1)

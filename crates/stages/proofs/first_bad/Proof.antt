@@ -1,16 +1,11 @@
 -- `first_bad`: by the reply of the machine.
 use mathlib.Core.Path.{subst}
 use native.Mathlib.Omega.{arith}
-use Rattle.grammar.specs.declared.Answer.{Answer}
 use Rattle.grammar.specs.declared.Start.the-variants.{Process}
 use Rattle.grammar.specs.Reply.{Verdict}
 use borrow.Author.Needs.{needs}
 use Rattle.stages.proofs.first_bad.Statement.{statement}
 use Rattle.stages.proofs.first_bad.Tie as tie
-use Rattle.stages.proofs.first_bad.Reads as reads
-use Rattle.stages.proofs.first_bad.Lts as lts
-use Rattle.grammar.proofs.read.Reads as read-reads
-use Rattle.stages.proofs.place_of.Reads as place-of-reads
 
 returns : tie.Need-returns
 returns c = subst (Verdict Process (c .before .before .before .before .before .before .args .kinds .now)) (c .enum-told .given .1) (c .before .before .read .ensures) .1

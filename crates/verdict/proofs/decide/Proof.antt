@@ -5,9 +5,6 @@ use Rattle.verdict.specs.DecidedLaws.{accepted, turned}
 use borrow.Author.Needs.{needs}
 use Rattle.verdict.proofs.decide.Statement.{statement}
 use Rattle.verdict.proofs.decide.Tie as tie
-use Rattle.verdict.proofs.decide.Reads as reads
-use Rattle.verdict.proofs.decide.Lts as lts
-use Rattle.reading.proofs.read.Reads as read-reads
 
 returns : tie.Need-returns
 returns c = accepted (c .before .before .before .before .before .read .ensures) (length-replicate {A = ℕ} 10920 0) (length-replicate {A = ℕ} 4096 0) (length-replicate {A = ℕ} 16384 0) (c .enum-told .given .1)

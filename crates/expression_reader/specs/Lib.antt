@@ -1,0 +1,4 @@
+pub mod Single
+pub mod Laws
+pub mod Loops
+pub mod Reads

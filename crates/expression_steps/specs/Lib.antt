@@ -1,0 +1,7 @@
+pub mod Rows
+pub mod Levels
+pub mod Views
+pub mod Made
+pub mod Larger
+pub mod Around
+pub mod StepLaws

@@ -1,0 +1,14 @@
+pub mod Rows
+pub mod Sizes
+pub mod Flat
+pub mod FlatLaws
+pub mod Brackets
+pub mod Flags
+pub mod Worked
+pub mod Tally
+pub mod TallyLaws
+pub mod Encoded
+pub mod EncodedLaws
+pub mod OneEncoding
+pub mod Room
+pub mod WorkedTexts

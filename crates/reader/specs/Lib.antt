@@ -1,4 +1,0 @@
-pub mod Single
-pub mod Laws
-pub mod Loops
-pub mod Store

@@ -1,5 +1,0 @@
-pub mod Tally
-pub mod TallyLaws
-pub mod Surveyed
-pub mod LoopLaws
-pub mod SurveyLaws

@@ -1,9 +1,0 @@
-pub mod Encoded
-pub mod OneEncoding
-pub mod Worked
-pub mod Kinds
-pub mod Gathered
-pub mod Laws
-pub mod Whole
-pub mod Room
-pub mod Guideline
