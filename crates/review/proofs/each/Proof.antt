@@ -37,6 +37,7 @@ returns c =
     let lp = c .before .loop in
     let n = c .before .before .tasks in
     (each-all (a .s .now) (a .f .now) (a .clock) (a .t4) (a .t5) (a .t6) (a .t7) (lp .t) (a .out .now) (lp .out) (lp .m) (λ l. (let e = n .ensures .1 l in omega arith)) (lp .inv .2), few-all (a .f .now) (lp .t) (lp .m) (λ l. (let e = n .ensures .1 l in omega arith)) (lp .inv .3))
+
 pub each-spec : {M : Type 1} → statement M
 each-spec =
     tie.close
