@@ -177,13 +177,13 @@ module _ (x : List ℕ) (n : ℕ) (b : List ℕ) where
     is-same : (i : ℕ) → Same rows i j → sameb (textAt b (cellOf x i 2)) (textAt b h) ≡ true
     is-same i q = reflects-true (same-reflects (textAt b (cellOf x i 2)) (textAt b h)) (q ∙ ap (textAt b) (sym eh))
 
-    found-kind : {from to : ℕ} (o : One (component-named x b h) from to) → kindOf x (o .i) ≡ “component”
+    pub found-kind : {from to : ℕ} (o : One (component-named x b h) from to) → kindOf x (o .i) ≡ “component”
     found-kind o = eqb-true (kindOf x (o .i)) “component” (and-l (eqb (kindOf x (o .i)) “component”) _ (o .passes))
 
-    found-same : {from to : ℕ} (o : One (component-named x b h) from to) → Same rows (o .i) j
+    pub found-same : {from to : ℕ} (o : One (component-named x b h) from to) → Same rows (o .i) j
     found-same o = same-is (o .i) (and-r (eqb (kindOf x (o .i)) “component”) (sameb (textAt b (cellOf x (o .i) 2)) (textAt b h)) (o .passes))
 
-    passes : (i : ℕ) → kindOf x i ≡ “component” → Same rows i j → component-named x b h i ≡ true
+    pub passes : (i : ℕ) → kindOf x i ≡ “component” → Same rows i j → component-named x b h i ≡ true
     passes i k q = both (eqb (kindOf x i) “component”) (sameb (textAt b (cellOf x i 2)) (textAt b h)) (eq-eqb (kindOf x i) “component” k) (is-same i q)
 
     -- ---- a component
