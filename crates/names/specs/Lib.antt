@@ -2,3 +2,4 @@ pub mod Lists
 pub mod Least
 pub mod Flaws
 pub mod Walk
+pub mod Verdict

@@ -71,19 +71,46 @@ pub record Spread (s : Sheet) (tasks : List ℕ) (m t : ℕ) (before after : Lis
   pub beyond : (k : ℕ) → m ≤ k → getD after k 0 ≡ getD before k 0
   pub all : (k : ℕ) → k < m → k < length before → Leads s t (getD tasks k 0) → 1 ≤ getD after k 0
 
+-- no mark is lost
+pub record Up (before after : List ℕ) : Type 0 where
+  pub over : (i : ℕ) → getD before i 0 ≤ getD after i 0
+
 abbrev pub Spreads : List ℕ → ℕ → List ℕ → List ℕ → ℕ → ℕ → List ℕ → List ℕ → Type 0
-Spreads x n b tasks m t before after = (length after ≡ length before) × (t < n → Spread (sheet x n b) tasks m t before after)
+Spreads x n b tasks m t before after = (length after ≡ length before) × Up before after × (t < n → Spread (sheet x n b) tasks m t before after)
 
 -- the k-th alone
 abbrev pub Marks : List ℕ → ℕ → List ℕ → List ℕ → ℕ → ℕ → List ℕ → List ℕ → Type 0
 Marks x n b tasks t k before after =
-    (length after ≡ length before)
+    (length after ≡ length before) × Up before after
     × (t < n → (Or-new (sheet x n b) tasks t k (getD before k 0) (getD after k 0)) × ((i : ℕ) → ¬ (i ≡ k) → getD after i 0 ≡ getD before i 0)
     × (k < length before → Leads (sheet x n b) t (getD tasks k 0) → 1 ≤ getD after k 0))
 
-up : {s : Sheet} {tasks : List ℕ} {t k a b : ℕ} → Or-new s tasks t k a b → a ≤ b
+pub up : {s : Sheet} {tasks : List ℕ} {t k a b : ℕ} → Or-new s tasks t k a b → a ≤ b
 up (as-it-was e) = omega arith
 up (marked e f l) = omega arith
+
+module _ (x : List ℕ) (n : ℕ) (b tasks : List ℕ) (t k : ℕ) (l : List ℕ) where
+  pub mark-not : (k < length l → ¬ (getD l k 0 ≡ 0)) → Marks x n b tasks t k l l
+  mark-not f = (refl, record { over = λ i. omega arith }, λ u. (as-it-was refl, λ i e. refl, λ v w. some-mark (getD l k 0) (f v)))
+    where
+      some-mark : (v : ℕ) → ¬ (v ≡ 0) → 1 ≤ v
+      some-mark zero h = absurd (h refl)
+      some-mark (suc v) h = omega arith
+
+  pub mark-no : {r : Bool} → Follows x n b tasks t k r → r ≡ false → Marks x n b tasks t k l l
+  mark-no f e = (refl, record { over = λ i. omega arith }, λ u. (as-it-was refl, λ i e. refl, λ v w. absurd (false-reflects (f u) e w)))
+
+  pub mark-yes : {r : Bool} → k < length l → getD l k 0 ≡ 0 → Follows x n b tasks t k r → r ≡ true → Marks x n b tasks t k l (set l k 1)
+  mark-yes v z f e = (
+    length-set l k 1,
+    record { over = λ i. over i (decLt i k) (decLt k i) },
+    λ u. (marked z (getD-set-same l k 1 0 v) (true-reflects (f u) e), λ i q. getD-set-other l k i 1 0 q, λ w y. let d = getD-set-same l k 1 0 v in omega arith),
+  )
+    where
+      over : (i : ℕ) → Dec (i < k) → Dec (k < i) → getD l i 0 ≤ getD (set l k 1) i 0
+      over i (yes a) b = let y = getD-set-other l k i 1 0 (λ q. omega arith) in omega arith
+      over i (no a) (yes b) = let y = getD-set-other l k i 1 0 (λ q. omega arith) in omega arith
+      over i (no a) (no b) = let q : k ≡ i = omega arith in subst (λ (j : ℕ). getD l j 0 ≤ getD (set l k 1) j 0) q (let y = z in omega arith)
 
 pub spread-none : (s : Sheet) (tasks : List ℕ) (t : ℕ) (l : List ℕ) → Spread s tasks 0 t l l
 spread-none s tasks t l = record { long = refl; each = λ k. as-it-was refl; beyond = λ k h. refl; all = λ k h. absurd (omega arith) }
@@ -111,6 +138,12 @@ spread-more {s} {tasks} {m} {t} {before} {middle} {after} p n o f g = record {
         let e : k ≡ m = omega arith in
         let n = p .long in
         subst (λ (z : ℕ). 1 ≤ getD after z 0) (sym e) (g (omega arith) (subst (λ (z : ℕ). Leads s t (getD tasks z 0)) e l))
+
+-- r is the first that waits, or their number
+pub record Waits (marks : List ℕ) (r : ℕ) : Type 0 where
+  pub within : r ≤ length marks
+  pub found : r < length marks → getD marks r 0 ≡ 1
+  pub none : length marks ≤ r → (k : ℕ) → k < length marks → ¬ (getD marks k 0 ≡ 1)
 
 -- ---- the measure: what the marks lack
 
@@ -149,8 +182,9 @@ pub record Told (s : Sheet) (tasks : List ℕ) (m : ℕ) (marks : List ℕ) : Ty
   pub yes-if : (k : ℕ) → k < m → ¬ (getD marks k 0 ≡ 0) → Reached s (getD tasks k 0)
   pub no-if : (k : ℕ) → k < m → getD marks k 0 ≡ 0 → ¬ Reached s (getD tasks k 0)
 
-abbrev pub Reaches : List ℕ → ℕ → List ℕ → List ℕ → ℕ → List ℕ → List ℕ → Type 0
-Reaches x n b tasks m before after = (length after ≡ length before) × (Begun x n b tasks m before → Told (sheet x n b) tasks m after)
+pub record Reaches (x : List ℕ) (n : ℕ) (b tasks : List ℕ) (m : ℕ) (before after : List ℕ) : Type 0 where
+  pub long : length after ≡ length before
+  pub told : Begun x n b tasks m before → Told (sheet x n b) tasks m after
 
 module _ {x : List ℕ} {n : ℕ} {b tasks : List ℕ} {m : ℕ} {blank : List ℕ} (g : Begun x n b tasks m blank) where
   some-task : 0 < m
@@ -293,3 +327,28 @@ module _ {x : List ℕ} {n : ℕ} {b tasks : List ℕ} {m : ℕ} {blank : List �
             go : Dec (0 < v) → 1 ≤ v
             go (yes d) = omega arith
             go (no d) = absurd (o (omega arith))
+
+-- ---- what the code does
+
+pub no-marks : {x : List ℕ} {n : ℕ} {b tasks : List ℕ} {m : ℕ} {blank : List ℕ} → Begun x n b tasks m blank → length blank ≡ 0 → ⊥
+no-marks g e = let z = some-task g in let y = g .room in omega arith
+
+pub lacks : {marks next : List ℕ} {i : ℕ} → Waits marks i → i < length marks → length next ≡ length (set marks i 2) → Up (set marks i 2) next → lack next < lack marks
+lacks {marks} {next} {i} w u e h = let z = lack-up (set marks i 2) next e (h .over) in let y = lack-set marks i u (w .found u) in omega arith
+
+module _ {x : List ℕ} {n : ℕ} {b tasks : List ℕ} {m : ℕ} {blank : List ℕ} (g : Begun x n b tasks m blank) {marks : List ℕ} {i : ℕ}
+    (w : Walked (sheet x n b) tasks m marks) (v : Waits marks i) (same : length marks ≡ length blank) where
+  pub walk-next : i < length marks → {t : ℕ} {next : List ℕ} → t ≡ getD tasks i 0 → Spreads x n b tasks m t (set marks i 2) next → Walked (sheet x n b) tasks m next
+  walk-next u {t} {next} et s =
+      let r = g .room in
+      let f = v .found u in
+      let below = inside-of (decLt i m) f in
+      let k = task-at g i below in
+      walk-more g w (omega arith) u f (subst (λ (z : ℕ). Spread (sheet x n b) tasks m z (set marks i 2) next) et (s .2 (subst (λ (z : ℕ). z < n) (sym et) (k .0))))
+    where
+      inside-of : Dec (i < m) → getD marks i 0 ≡ 1 → i < m
+      inside-of (yes l) f = l
+      inside-of (no l) f = absurd (let z = w .beyond i (omega arith) in omega arith)
+
+  pub walk-end : length marks ≤ i → Told (sheet x n b) tasks m marks
+  walk-end u = walk-told g w (v .none u) (let r = g .room in omega arith)
