@@ -160,6 +160,16 @@ module _ (x : List ℕ) (n : ℕ) (b : List ℕ) where
   abbrev pub Constraint : ℕ → Bool → Type 0
   Constraint j r = j < n → Reflects (ConstraintFlaw rows j) r
 
+  -- no component of the plan around the row has the name
+  pub record Unnamed (j h : ℕ) (r : Bool) : Type 0 where
+    pub a : ℕ
+    pub z : ℕ
+    pub found : Bool
+    pub start : Start x j a
+    pub finish : Finish x n j z
+    pub some-one : Some (component-named x b h) a z found
+    pub is : r ≡ not found
+
   abbrev pub Attribute : ℕ → Bool → Type 0
   Attribute j r = Reflects (AttributeFlaw rows j) r
 
@@ -177,13 +187,13 @@ module _ (x : List ℕ) (n : ℕ) (b : List ℕ) where
     is-same : (i : ℕ) → Same rows i j → sameb (textAt b (cellOf x i 2)) (textAt b h) ≡ true
     is-same i q = reflects-true (same-reflects (textAt b (cellOf x i 2)) (textAt b h)) (q ∙ ap (textAt b) (sym eh))
 
-    found-kind : {from to : ℕ} (o : One (component-named x b h) from to) → kindOf x (o .i) ≡ “component”
+    pub found-kind : {from to : ℕ} (o : One (component-named x b h) from to) → kindOf x (o .i) ≡ “component”
     found-kind o = eqb-true (kindOf x (o .i)) “component” (and-l (eqb (kindOf x (o .i)) “component”) _ (o .passes))
 
-    found-same : {from to : ℕ} (o : One (component-named x b h) from to) → Same rows (o .i) j
+    pub found-same : {from to : ℕ} (o : One (component-named x b h) from to) → Same rows (o .i) j
     found-same o = same-is (o .i) (and-r (eqb (kindOf x (o .i)) “component”) (sameb (textAt b (cellOf x (o .i) 2)) (textAt b h)) (o .passes))
 
-    passes : (i : ℕ) → kindOf x i ≡ “component” → Same rows i j → component-named x b h i ≡ true
+    pub passes : (i : ℕ) → kindOf x i ≡ “component” → Same rows i j → component-named x b h i ≡ true
     passes i k q = both (eqb (kindOf x i) “component”) (sameb (textAt b (cellOf x i 2)) (textAt b h)) (eq-eqb (kindOf x i) “component” k) (is-same i q)
 
     -- ---- a component
@@ -270,6 +280,12 @@ module _ (x : List ℕ) (n : ℕ) (b : List ℕ) where
           go d k q (no m) (yes w) = k .2 c w l (o .component l)
           go d k q (no m) (no w) = let y : c ≡ d = omega arith in same-not c (ap (λ (v : ℕ). sameb (textAt b v) (textAt b h)) (sym eg) ∙ e) (sym (subst (λ (v : ℕ). Same rows j v) (sym y) q))
 
+    pub constraint-none : {c : ℕ} {r : Bool} → Nearest x j c → ¬ (c < j) → Unnamed j h r → Constraint j r
+    constraint-none o l w = subst (Constraint j) (sym (w .is)) (constraint-alone (w .start) (w .finish) (w .some-one) o l)
+
+    pub constraint-else : {c g : ℕ} {r : Bool} → Nearest x j c → c < j → g ≡ cellOf x c 2 → sameb (textAt b g) (textAt b h) ≡ false → Unnamed j h r → Constraint j r
+    constraint-else o l eg e w = subst (Constraint j) (sym (w .is)) (constraint-other (w .start) (w .finish) (w .some-one) o l eg e)
+
     -- ---- the lists
 
     module _ {c : ℕ → Bool} {l : List ℕ} {m : ℕ} (t : Lists c x n l m) {r : Bool} where
@@ -303,3 +319,37 @@ module _ (x : List ℕ) (n : ℕ) (b : List ℕ) where
   attribute-again-is ek er e = reflects-iff
       (λ a. record { i = a .i; before = a .before; stands-once = sym (ap once ek) ∙ sym er ∙ e; same = a .same; still = a .still })
       (λ f. record { i = f .i; before = f .before; same = f .same; still = f .still })
+
+-- ---- one row, by its kind
+
+module _ (x : List ℕ) (n : ℕ) (b : List ℕ) where
+  data-of : (i : ℕ) → i < n → is-data (kindOf x i) ≡ true → Of (sheet x n b) “data” i
+  data-of i l e = (l, eqb-true (kindOf x i) “data” e)
+
+  of-data : (i : ℕ) → Of (sheet x n b) “data” i → is-data (kindOf x i) ≡ true
+  of-data i o = eq-eqb (kindOf x i) “data” (o .1)
+
+module _ (x : List ℕ) (n : ℕ) (b : List ℕ) {tasks items : List ℕ} {m d : ℕ} (j : ℕ) {h k : ℕ} {r : Bool} (eh : h ≡ cellOf x j 2) (ek : k ≡ kindOf x j) where
+  pub flawed-task : task-kind k ≡ true → Some (listed-at x b tasks j true h) 0 m r → Flawed x n b tasks m items d j r
+  flawed-task e s t i u =
+      task-flaw (sheet x n b) j u (ap task-kind (sym ek) ∙ e) (alike-before x n b j eh t (Task (sheet x n b)) (λ v l q. (l, q)) (λ v q. q .1) u s)
+
+  pub flawed-item : k ≡ “data” → Some (listed-at x b items j true h) 0 d r → Flawed x n b tasks m items d j r
+  flawed-item e s t i u = item-flaw (sheet x n b) j u (sym ek ∙ e) (alike-before x n b j eh i (Of (sheet x n b) “data”) (data-of x n b) (of-data x n b) u s)
+
+  pub flawed-component : k ≡ “component” → Component x n b tasks m j r → Flawed x n b tasks m items d j r
+  flawed-component e f t i u = component-flaw (sheet x n b) j u (sym ek ∙ e) (f t u)
+
+  pub flawed-constraint : k ≡ “schedule-constraint” → Constraint x n b j r → Flawed x n b tasks m items d j r
+  flawed-constraint e f t i u = constraint-flaw (sheet x n b) j u (sym ek ∙ e) (f u)
+
+  pub flawed-source : k ≡ “source” → Some (listed-at x b items n false h) 0 d r → Flawed x n b tasks m items d j (not r)
+  flawed-source e s t i u = source-flaw (sheet x n b) j u (sym ek ∙ e) (same-none x n b j eh i (of-data x n b) (data-of x n b) s)
+
+  pub flawed-target : k ≡ “=” → Some (listed-at x b items n true h) 0 d r → Flawed x n b tasks m items d j (not r)
+  flawed-target e s t i u = target-flaw (sheet x n b) j u (sym ek ∙ e) (alike-none x n b j eh i (of-data x n b) (data-of x n b) s)
+
+  pub flawed-other : task-kind k ≡ false → ¬ (k ≡ “data”) → ¬ (k ≡ “component”) → ¬ (k ≡ “schedule-constraint”) → ¬ (k ≡ “source”) → ¬ (k ≡ “=”)
+      → Attribute x n b j r → Flawed x n b tasks m items d j r
+  flawed-other a1 a2 a3 a4 a5 a6 f t i u =
+      other-flaw (sheet x n b) j u (ap task-kind (sym ek) ∙ a1) (λ e. a2 (ek ∙ e)) (λ e. a3 (ek ∙ e)) (λ e. a4 (ek ∙ e)) (λ e. a5 (ek ∙ e)) (λ e. a6 (ek ∙ e)) f

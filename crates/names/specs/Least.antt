@@ -15,6 +15,16 @@ abbrev pub nearer : Found → ℕ → Found
 nearer Nowhere p = At p
 nearer (At q) p = cond (leb q p) (At q) (At p)
 
+-- what the code finds out of the two
+pub nearer-none : (r : Found) {p : ℕ} → r ≡ Nowhere → At p ≡ nearer r p
+nearer-none r {p} e = ap (λ (f : Found). nearer f p) (sym e)
+
+pub nearer-old : (r : Found) {q p : ℕ} → r ≡ At q → q ≤ p → At q ≡ nearer r p
+nearer-old r {q} {p} e l = sym (ap (λ (f : Found). nearer f p) e ∙ rw (le-leb q p l))
+
+pub nearer-new : (r : Found) {q p : ℕ} → r ≡ At q → ¬ (q ≤ p) → At p ≡ nearer r p
+nearer-new r {q} {p} e l = sym (ap (λ (f : Found). nearer f p) e ∙ rw (lt-leb q p (let z : p < q = omega arith in z)))
+
 -- of the rows for which P holds, with the place of each
 abbrev pub Least : (ℕ → Type 0) → (ℕ → ℕ) → Found → Type 0
 Least P f (At p) = ((j : ℕ) × P j × (p ≡ f j)) × ((j : ℕ) → P j → p ≤ f j)

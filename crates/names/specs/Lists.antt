@@ -62,6 +62,17 @@ Matched b false g h = textAt b g ≡ textAt b h
 abbrev pub listed-at : List ℕ → List ℕ → List ℕ → ℕ → Bool → ℕ → ℕ → Bool
 listed-at x b l to f h k = ltb (getD l k 0) to && matched b f (cellOf x (getD l k 0) 2) h
 
+-- ---- one of the list
+
+module _ (x b l : List ℕ) (to : ℕ) (f : Bool) (h k : ℕ) {i : ℕ} (ei : i ≡ getD l k 0) where
+  pub listed-beyond : to ≤ i → false ≡ listed-at x b l to f h k
+  listed-beyond u = rw (le-ltb (getD l k 0) to (subst (λ (z : ℕ). to ≤ z) ei u))
+
+  pub listed-before : i < to → {g : ℕ} {r : Bool} → g ≡ cellOf x i 2 → r ≡ matched b f g h → r ≡ listed-at x b l to f h k
+  listed-before u eg er =
+      rw (lt-ltb (getD l k 0) to (subst (λ (z : ℕ). z < to) ei u))
+      (er ∙ ap (λ (z : ℕ). matched b f z h) (eg ∙ ap (λ (z : ℕ). cellOf x z 2) ei))
+
 -- ---- counting
 
 tally-yes : (c : ℕ → Bool) (x : List ℕ) (i : ℕ) → c (kindOf x i) ≡ true → tally c x (suc i) ≡ suc (tally c x i)
@@ -138,6 +149,15 @@ module _ (tasks : Bool) (x l : List ℕ) (m i : ℕ) where
     few = omega arith;
     entered = λ h f. last l (chosen tasks) f (λ q r. absurd (omega arith));
   }
+
+-- the rows up to the next, and to the last
+pub gather-more : {tasks : Bool} {x l k : List ℕ} {m i r : ℕ} → Puts tasks x l k m i r → m ≡ tally (chosen tasks) x i → Entered (chosen tasks) x l i
+    → (r ≡ tally (chosen tasks) x (i + 1)) × Entered (chosen tasks) x k (i + 1)
+gather-more {tasks} {x} {k = k} {i = i} {r = r} p e f =
+    (subst (λ (j : ℕ). r ≡ tally (chosen tasks) x j) (sym (add-one i)) (p .count e), subst (Entered (chosen tasks) x k) (sym (add-one i)) (p .entered e f))
+
+pub gathered : (tasks : Bool) (x : List ℕ) (n : ℕ) (before l : List ℕ) (m i : ℕ) → i ≡ n → length l ≡ length before → m ≡ tally (chosen tasks) x i → Entered (chosen tasks) x l i → Gathers tasks x n before l m
+gathered tasks x n before l m i e len c f = record { long = len; count = subst (λ (j : ℕ). m ≡ tally (chosen tasks) x j) e c; entered = subst (Entered (chosen tasks) x l) e f }
 
 -- ---- what a search of a full list says of the rows
 

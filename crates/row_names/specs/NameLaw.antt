@@ -128,14 +128,14 @@ constraint-only p (source n xs) (at-later h) e = absurd (source-kind-no xs h e)
 
 -- ---- kinds
 
-task-has-name : (k : ℕ) → task-kind k ≡ true → (head-kind k || named-kind k) ≡ true
+pub task-has-name : (k : ℕ) → task-kind k ≡ true → (head-kind k || named-kind k) ≡ true
 task-has-name k e = in-list (λ (z : ℕ). head-kind z || named-kind z) (“plan” ∷ “action” ∷ “enquiry” ∷ []) k refl e
 
 pub task-not-once : (k : ℕ) → task-kind k ≡ true → once k ≡ false
 task-not-once k e = let z = in-list (λ (z : ℕ). not (once z)) (“plan” ∷ “action” ∷ “enquiry” ∷ []) k refl e in
     ⊎-elim (λ h. not-both (once k) z h) (λ h. h) (two (once k))
 
-word-has-name : (w k : ℕ) → (head-kind w || named-kind w) ≡ true → is-word w k ≡ true → (head-kind k || named-kind k) ≡ true
+pub word-has-name : (w k : ℕ) → (head-kind w || named-kind w) ≡ true → is-word w k ≡ true → (head-kind k || named-kind k) ≡ true
 word-has-name w k h e = subst (λ (z : ℕ). (head-kind z || named-kind z) ≡ true) (sym (eqb-true k w e)) h
 
 root-task : {g : List TopLevel} {t : Task} → At g 0 (task t) → At (tasks g) 0 t
@@ -170,10 +170,10 @@ module _ (g : List TopLevel) (s : Sheet) (a : Agrees s (flatten g)) (shape : Sha
   target-row : {i : ℕ} {x : Assignment} → At (assignments g) i x → (j : ℕ) × RowOf g s a (is-word “=”) i j (x .target)
   target-row h = thing-row g s a (is-word “=”) (λ (x : Assignment). x .target) (assignments g) (target-names g) h
 
-  row-task : (j : ℕ) → Sheet.Task s j → Thing g s a task-kind (λ (t : Task). t .named) (tasks g) (task-names g) task-has-name j
+  pub row-task : (j : ℕ) → Sheet.Task s j → Thing g s a task-kind (λ (t : Task). t .named) (tasks g) (task-names g) task-has-name j
   row-task j h = row-thing g s a task-kind (λ (t : Task). t .named) (tasks g) (task-names g) task-has-name j (h .0) (h .1)
 
-  row-item : (j : ℕ) → Of s “data” j → Thing g s a is-data (λ (d : DataItem). d .named) (data-items g) (item-names g) (λ k e. word-has-name “data” k refl e) j
+  pub row-item : (j : ℕ) → Of s “data” j → Thing g s a is-data (λ (d : DataItem). d .named) (data-items g) (item-names g) (λ k e. word-has-name “data” k refl e) j
   row-item j h = row-thing g s a is-data (λ (d : DataItem). d .named) (data-items g) (item-names g) (λ k e. word-has-name “data” k refl e) j (h .0) (eq-eqb (s .kind j) “data” (h .1))
 
   row-component : (j : ℕ) → Of s “component” j → Thing g s a (is-word “component”) (λ (c : Component). c .named) (components g) (component-names g) (λ k e. word-has-name “component” k refl e) j
@@ -191,14 +191,14 @@ module _ (g : List TopLevel) (s : Sheet) (a : Agrees s (flatten g)) (shape : Sha
   word-spot : (w : ℕ) {i j : ℕ} {n : Name} → once w ≡ false → RowOf g s a (is-word w) i j n → n .place ≡ spot s j
   word-spot w {j = j} e r = named-spot j (ap once (of-word r .1) ∙ e) (r .place)
 
-  task-of : {i j : ℕ} {n : Name} → RowOf g s a task-kind i j n → Sheet.Task s j
+  pub task-of : {i j : ℕ} {n : Name} → RowOf g s a task-kind i j n → Sheet.Task s j
   task-of r = (r .below, r .kind)
 
   task-spot : {i j : ℕ} {n : Name} → RowOf g s a task-kind i j n → n .place ≡ spot s j
   task-spot {j = j} r = named-spot j (task-not-once (s .kind j) (r .kind)) (r .place)
 
   -- the root's row is the first
-  root-row : RowOf g s a task-kind 0 0 (shape .root .named)
+  pub root-row : RowOf g s a task-kind 0 0 (shape .root .named)
   root-row = row-of g s a task-kind (root-kept (shape .first))
 
   stand-row : (j : ℕ) → Sheet.Task s j → (i : ℕ) × (t : Task) × At (tasks g) i t × Stand g i j t
