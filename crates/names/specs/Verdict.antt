@@ -11,11 +11,11 @@ use borrow.Author.Tests.{eqb-true, eq-eqb}
 use Rattle.paper_expressions.specs.View.{At}
 use Rattle.paper_expressions.specs.Laws.Search.{Reflects, true-reflects, false-reflects}
 use Rattle.paper_tokens.specs.Tokens.{“data”}
-use Rattle.parts.specs.Items.{index-of}
+use Rattle.parts.specs.ItemLaws.{index-of}
 use Rattle.paper_guideline.specs.Structure.{Name, TopLevel, Task, DataItem, tasks, data-items}
 use Rattle.paper_guideline.specs.Limits.{task-limit, data-item-limit}
 use Rattle.paper_guideline.specs.Names.{NameBreach}
-use Rattle.outline.specs.Rows.{flatten}
+use Rattle.guideline_rows.specs.Rows.{flatten}
 use Rattle.row_names.specs.Selected.{Kept, rise, rank-rise}
 use Rattle.row_names.specs.Sheet
 use Sheet.{Sheet, task-kind, once, Flaw, Bad, flawed, unreached, spot}
