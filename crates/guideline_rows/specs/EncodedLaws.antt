@@ -9,7 +9,8 @@ use Rattle.paper_expressions.specs.Expressions.{Expr, Exprs, Atom, IntegerLit, 
 use Rattle.paper_expressions.specs.Laws.Parentheses.{bare, bares}
 use Rattle.paper_guideline.specs.Structure.{Outermost}
 use Rattle.parts.specs.Part.{size, sizes}
-use Rattle.parts.specs.Encode.{Part, flat, flat-length, spelling, encode, encodes}
+use Rattle.parts.specs.Encode.{Part, flat, spelling, encode, encodes}
+use Rattle.parts.specs.EncodeLaws.{flat-length}
 use Rattle.guideline_rows.specs.Rows.{Row, expression-of}
 use Rattle.guideline_rows.specs.Sizes.{size-in, parts-in}
 use Rattle.guideline_rows.specs.Encoded.{row-text, text-of, behind-name, expression-parts, parts-of, row-cells, cells-of}

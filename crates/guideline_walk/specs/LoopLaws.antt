@@ -10,7 +10,8 @@ use lib.ListN.{length, getD, length-append}
 use Rattle.paper_guideline.specs.Limits.{part-limit}
 use Rattle.paper_tokens.specs.Lexical.{Token}
 use Rattle.paper_guideline.specs.Structure.{TopLevel}
-use Rattle.parts.specs.Encode.{flat, flat-length, flat-append}
+use Rattle.parts.specs.Encode.{flat}
+use Rattle.parts.specs.EncodeLaws.{flat-length, flat-append}
 use Rattle.leaves.specs.Source.{Source}
 use Rattle.expression_steps.specs.Rows.{Beside}
 use Rattle.expression_steps.specs.Levels.{kindOf, stand-length}
