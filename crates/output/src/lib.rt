@@ -4,7 +4,6 @@ ghost use lib.ListN.{length, take};
 ghost use Rattle.digits.specs.Appends.{Appends};
 ghost use Rattle.line.specs.Reply.{Reply};
 ghost use Rattle.output.specs.Steps.{line-limit, following, Room, Starts, LineWritten, Steps, Ends};
-
 use limits::Answer;
 
 pub struct Written;
