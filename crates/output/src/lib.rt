@@ -6,7 +6,6 @@ ghost use Rattle.digits.specs.Appends.{Appends};
 ghost use Rattle.line.specs.Reply.{Reply};
 ghost use Rattle.output.specs.Steps.{line-limit, following, Room, Starts, LineWritten, Steps, Ends};
 
-
 pub struct Written;
 
 impl Written {

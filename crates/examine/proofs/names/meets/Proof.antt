@@ -1,5 +1,6 @@
 -- `meets` is safe: a name has 48 cells.
 use Prim.Native.Nat.{ℕ}
+use mathlib.Core.Path.{sym}
 use lib.ListN.{length-replicate}
 use borrow.Author.Needs.{needs}
 use Rattle.examine.proofs.names.meets.Statement.{statement}
@@ -9,7 +10,7 @@ name-requires : tie.Need-name-requires
 name-requires c κs = length-replicate {A = ℕ} 48 0
 
 slice-aggregate-alike : tie.Need-slice-aggregate-alike
-slice-aggregate-alike c = @{name} .ensures
+slice-aggregate-alike c = sym (c .before .name .ensures)
 
 pub meets-spec : {M : Type 1} → statement M
-meets-spec = tie.close (tie.spec name-requires (λ c. search needs) slice-aggregate-alike (λ c κs. search needs) (λ c. search needs))
+meets-spec = tie.close (tie.spec name-requires slice-aggregate-alike (λ c κs. search needs) (λ c. search needs))
