@@ -6,10 +6,10 @@ use Rattle.output.proofs.last.Statement.{statement}
 use Rattle.output.proofs.last.Tie as tie
 
 returns : tie.Need-returns
-returns c = let a = @{start} .args in none-left (a .kept .now) (a .out .now) (a .s) (let r = @{start} .pre in omega arith) (@{if1} .taken)
+returns c = let a = c .before .before .before .before .args in none-left (a .kept .now) (a .out .now) (a .s) (let r = c .before .before .before .before .pre in omega arith) (c .if1 .taken)
 
 returns-2 : tie.Need-returns-2
-returns-2 c = let e = @{if1} .left in one-left (omega arith) (@{write-line} .ensures)
+returns-2 c = let e = c .before .before .before .before .if1 .left in one-left (omega arith) (c .before .before .write-line .ensures)
 
 pub last-spec : {M : Type 1} → statement M
 last-spec = tie.close (tie.spec returns (λ c κs. search needs) (λ c. search needs) returns-2)

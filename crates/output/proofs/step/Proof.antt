@@ -6,10 +6,10 @@ use Rattle.output.proofs.step.Statement.{statement}
 use Rattle.output.proofs.step.Tie as tie
 
 returns : tie.Need-returns
-returns c = ends (@{take} .ensures) (@{if1} .taken) (@{write-line} .ensures) (@{next} .ensures)
+returns c = ends (c .before .before .before .before .before .before .before .before .before .take .ensures) (c .before .before .before .before .before .before .if1 .taken) (c .before .before .before .write-line .ensures) (c .next .ensures)
 
 returns-2 : tie.Need-returns-2
-returns-2 c = goes-on (@{take} .ensures) (@{start} .args .out .now) (let r = @{start} .pre in omega arith) (@{if1} .left)
+returns-2 c = goes-on (c .before .before .before .take .ensures) (c .before .before .before .before .before .before .before .before .args .out .now) (let r = c .before .before .before .before .before .before .before .before .pre in omega arith) (c .if1 .left)
 
 pub step-spec : {M : Type 1} → statement M
 step-spec =
