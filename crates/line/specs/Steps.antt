@@ -14,15 +14,14 @@ use Rattle.paper_guideline.specs.Tree.{anywhere, Tree}
 use Rattle.paper_guideline.specs.Refusals.{Stage, turn}
 use Rattle.paper_guideline.specs.Line.{no-items, LineTree, LineBreach, refused, LineAnswers}
 use Rattle.tokens.specs.Reply.{blank}
-use Rattle.parts.specs.Part.{Table, size, Ends, Within}
+use Rattle.parts.specs.Part.{table, Table, size, Ends, Within}
 use Rattle.resolution.specs.Letters.{letter}
 use Rattle.leaves.specs.Source.{source, Stand, Clean}
 use Rattle.written.specs.Limit.{answer-limit}
 use Rattle.line.specs.declared.tests.Verdict.{Verdict}
 use Rattle.line.specs.declared.tests.Verdict.the-variants.{Fine, Refused}
-use Rattle.line.specs.declared.tests.Fit.{Fit}
-use Rattle.line.specs.declared.tests.Fit.the-variants as Fit
-use Fit.{Within}
+use Rattle.line.specs.declared.tests.Limited.{Limited}
+use Rattle.line.specs.declared.tests.Limited.the-variants as Limited
 use Rattle.line.specs.Reply.{Answered}
 
 -- cells that are blank, and enough for every answer
@@ -73,9 +72,12 @@ abbrev pub Parses : List ℕ → List ℕ → List ℕ → List ℕ → Verdict 
 Parses line kinds places lengths Fine = Parsed line kinds places lengths
 Parses line kinds places lengths (Refused n) = LineAnswers line (refused n)
 
-abbrev pub Fits : List ℕ → List ℕ → Fit → Type 0
-Fits line cells (Within end) = Held line (table cells line) end
-Fits line cells (Fit.Refused n) = LineAnswers line (refused n)
+abbrev pub Fitted : List ℕ → List ℕ → Limited → Type 0
+Fitted line cells (Limited.Within end) = Held line (table cells line) end
+Fitted line cells (Limited.Refused n) = LineAnswers line (refused n)
+
+pub record Fits (line cells : List ℕ) (v : Limited) : Type 0 where
+  pub fitted : Fitted line cells v
 
 -- whatever line the parts before `end` are of: its answer is in the n cells
 abbrev pub Comes : Table → ℕ → ℕ → List ℕ → ℕ → Type 0

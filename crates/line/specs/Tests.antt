@@ -28,9 +28,9 @@ use Rattle.expression_reader.specs.Reads.{Whole, Reads, parts-size, within-dept
 use Rattle.line.specs.declared.tests.Verdict.{Verdict}
 use Rattle.line.specs.declared.tests.Verdict.the-variants.{Fine, Refused}
 use Rattle.parts.specs.Part.{table}
-use Rattle.line.specs.declared.tests.Fit.{Fit}
-use Rattle.line.specs.declared.tests.Fit.the-variants as Fit
-use Rattle.line.specs.Steps.{Lexed, Parsed, Fitting, Held, Parses, Fits}
+use Rattle.line.specs.declared.tests.Limited.{Limited}
+use Rattle.line.specs.declared.tests.Limited.the-variants as Limited
+use Rattle.line.specs.Steps.{Lexed, Parsed, Fitting, Held, Parses, Fitted, Fits}
 use Rattle.line.specs.Stages.{few-tokens, few-open, no-sentence, sentence, uses, nothing-left-out, over-limit, deep, long-lists, too-many-parts, within-limits}
 use Rattle.columns.specs.Columns.{as-many}
 use Rattle.columns.specs.Clean.{clean}
@@ -131,9 +131,9 @@ module _ (line kinds places lengths : List ℕ) {v : Verdict} where
   pub a-parse : Parses line kinds places lengths v → v ≡ Fine → Parsed line kinds places lengths
   a-parse h e = subst (Parses line kinds places lengths) e h
 
-module _ (line cells : List ℕ) {v : Fit} where
-  pub no-fit : {n : ℕ} → Fits line cells v → v ≡ Fit.Refused n → LineAnswers line (refused n)
-  no-fit h e = subst (Fits line cells) e h
+module _ {line cells : List ℕ} {v : Limited} (h : Fits line cells v) where
+  pub no-fit : {n : ℕ} → v ≡ Limited.Refused n → LineAnswers line (refused n)
+  no-fit e = subst (Fitted line cells) e (h .fitted)
 
-  pub a-fit : {end : ℕ} → Fits line cells v → v ≡ Fit.Within end → Held line (table cells line) end
-  a-fit h e = subst (Fits line cells) e h
+  pub a-fit : {end : ℕ} → v ≡ Limited.Within end → Held line (table cells line) end
+  a-fit e = subst (Fitted line cells) e (h .fitted)

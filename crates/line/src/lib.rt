@@ -5,7 +5,7 @@ mod valued;
 
 use limits::Expressions;
 use limits::TokenList;
-use tests::Fit;
+use tests::Limited;
 use tests::Verdict;
 use tokens::Read;
 use written::Answer;
@@ -39,8 +39,8 @@ fn tested(line: &[u8], kinds: &[u8], places: &[usize], lengths: &[usize], out: &
     }
     let mut cells = [0u32; Expressions::CELLS];
     match tests::fit(line, kinds, places, lengths, &mut cells) {
-        Fit::Refused(n) => written::refused(n, out, 0),
-        Fit::Within(end) => valued::value(&cells, line, end, out),
+        Limited::Refused(n) => written::refused(n, out, 0),
+        Limited::Within(end) => valued::value(&cells, line, end, out),
     }
 }
 

@@ -18,7 +18,7 @@ pub enum Verdict {
 }
 
 // Where the parts of the expression end, or the number of the refusal.
-pub enum Fit {
+pub enum Limited {
     Within(usize),
     Refused(u8),
 }
@@ -50,26 +50,26 @@ pub fn fit(
     places: &[usize],
     lengths: &[usize],
     cells: &mut [u32],
-) -> Fit
+) -> Limited
     requires { ⌜ Parsed (now line) (now kinds) (now places) (now lengths) ⌝ }
     requires { ⌜ length (now cells) ≡ part-limit * 4 ⌝ }
     ensures { λ r. ⌜ Fits (now (line .entry)) (now (cells .exit)) r ⌝ }
 {
     match token_tests::past_limit(line, kinds, places, lengths) {
         Found::At(_) => {
-            return Fit::Refused(6);
+            return Limited::Refused(6);
         }
         Found::Nowhere => {}
     }
     let m = expression_reader::read(line, kinds, places, lengths, 0, false, cells, 0);
     if Expression::DEPTH < m.depth {
-        return Fit::Refused(6);
+        return Limited::Refused(6);
     }
     if List::LIST_LIMIT < m.longest {
-        return Fit::Refused(6);
+        return Limited::Refused(6);
     }
     if Expressions::PARTS < m.used {
-        return Fit::Refused(6);
+        return Limited::Refused(6);
     }
-    Fit::Within(m.used)
+    Limited::Within(m.used)
 }

@@ -8,6 +8,8 @@ use row_tests::texts::same;
 ghost use mathlib.Core.Path.{_≡_};
 ghost use Prim.Native.Nat.{_+_, _≤_, _<_};
 ghost use lib.ListN.{length};
+ghost use Rattle.paper_expressions.specs.Laws.Search.{alikeb};
+ghost use Rattle.parts.specs.Texts.{textAt};
 ghost use Rattle.row_tests.specs.Searched.{Some};
 ghost use Rattle.names.specs.Lists.{chosen, matched, listed-at, Puts, Gathers};
 
@@ -51,12 +53,19 @@ pub fn gather(rows: &[u32], n: usize, tasks: bool, list: &mut [u32]) -> usize
     m
 }
 
+// Whether two texts, given by their handles, are equal if case is ignored.
+fn folds(bytes: &[u8], g: usize, h: usize) -> bool
+    ensures { λ r. ⌜ r ≡ alikeb (textAt (now (bytes .entry)) g) (textAt (now (bytes .entry)) h) ⌝ }
+{
+    alike(bytes, g / 64, g % 64, h / 64, h % 64)
+}
+
 // Whether two texts are equal, or equal if case is ignored.
 fn matches(bytes: &[u8], folded: bool, g: usize, h: usize) -> bool
     ensures { λ r. ⌜ r ≡ matched (now (bytes .entry)) folded g h ⌝ }
 {
     if folded {
-        return alike(bytes, g, h);
+        return folds(bytes, g, h);
     }
     same(bytes, g, h)
 }

@@ -7,7 +7,7 @@ use Rattle.names.proofs.lists.matches.Statement.{statement}
 use Rattle.names.proofs.lists.matches.Tie as tie
 
 returns : tie.Need-returns
-returns c = let a = c .before .before .before .args in c .alike .ensures ∙ ap (λ (t : Bool). matched (a .bytes .now) t (a .g) (a .h)) (sym (c .before .if1 .taken))
+returns c = let a = c .before .before .before .args in c .folds .ensures ∙ ap (λ (t : Bool). matched (a .bytes .now) t (a .g) (a .h)) (sym (c .before .if1 .taken))
 
 returns-2 : tie.Need-returns-2
 returns-2 c = let a = c .before .before .before .args in c .same .ensures ∙ ap (λ (t : Bool). matched (a .bytes .now) t (a .g) (a .h)) (sym (c .before .if1 .left))
