@@ -1,5 +1,5 @@
 -- What a copy and a comparison of n cells promise, and the laws of their loops. By the cells passed.
-use Prim.Native.Nat.{ℕ, _+_, _<_, _≤_}
+use Prim.Native.Nat.{ℕ, zero, suc, _+_, _<_, _≤_}
 use native.Mathlib.Omega.{arith}
 use native.Mathlib.Decide.{decLt, ℕ-discrete}
 use native.Mathlib.Nat.{not-suc-le-zero}
@@ -7,10 +7,11 @@ use mathlib.Core.Path.{_≡_, refl, sym, ap, subst, _∙_}
 use mathlib.Core.Bool.{Bool, true, false}
 use mathlib.Core.Logic.{_↔_, _⊎_, inl, inr}
 use mathlib.Core.List.{List}
-use lib.ListN.{getD, set, length, length-set}
+use lib.ListN.{getD, set, length, length-set, List·getD-eq-default}
 use lib.Seq.{getD-set-same, getD-set-other}
 use borrow.Author.Count.{below-more}
 use Rattle.paper_expressions.specs.Laws.Tests.{contra}
+use Rattle.parts.specs.Texts.{cells}
 
 -- outside the n cells from q on
 abbrev pub Outside : ℕ → ℕ → ℕ → Type 0
@@ -47,6 +48,22 @@ copied-more from p to q k v u {x} e f h =
 
 pub copied-all : (from : List ℕ) (p : ℕ) (to : List ℕ) (q n k : ℕ) (v : List ℕ) → k ≡ n → Copied from p to q k v → Copied from p to q n v
 copied-all from p to q n k v e h = subst (λ (m : ℕ). Copied from p to q m v) e h
+
+-- ---- a text
+
+pub cells-long : (b : List ℕ) (p n : ℕ) → length (cells b p n) ≡ n
+cells-long b p zero = refl
+cells-long b p (suc n) = ap suc (cells-long b (suc p) n)
+
+pub cells-at : (b : List ℕ) (p n k : ℕ) → k < n → getD (cells b p n) k 0 ≡ getD b (p + k) 0
+cells-at b p zero k l = absurd (not-suc-le-zero l)
+cells-at b p (suc n) zero l = let e : p ≡ p + 0 = omega arith in ap (λ (y : ℕ). getD b y 0) e
+cells-at b p (suc n) (suc k) l =
+    let e : suc p + k ≡ p + suc k = omega arith in
+    cells-at b (suc p) n k (omega arith) ∙ ap (λ (y : ℕ). getD b y 0) e
+
+pub cells-past : (b : List ℕ) (p n k : ℕ) → n ≤ k → getD (cells b p n) k 0 ≡ 0
+cells-past b p n k l = let e = cells-long b p n in List·getD-eq-default (cells b p n) 0 (omega arith)
 
 -- ---- a comparison
 

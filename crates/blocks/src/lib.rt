@@ -2,6 +2,7 @@
 ghost use mathlib.Core.Path.{_≡_};
 ghost use Prim.Native.Nat.{_+_, _≤_};
 ghost use lib.ListN.{getD, set};
+ghost use Rattle.parts.specs.Texts.{cells as cellsOf};
 ghost use Rattle.blocks.specs.Blocks.{Copied, Compares};
 
 // A cell; 0 past the end.
@@ -50,6 +51,28 @@ pub fn copy_bytes(from: &[u8], p: usize, to: &mut [u8], q: usize, n: usize)
     let mut k: usize = 0;
     while k < n {
         put_byte(to, q + k, parts::byte(from, p + k));
+        k += 1;
+    }
+}
+
+// The byte `k` of the text of `n` bytes from `p` on; 0 past its end.
+fn text_byte(from: &[u8], p: usize, n: usize, k: usize) -> u8
+    ensures { λ r. ⌜ r ≡ getD (cellsOf (now (from .entry)) p n) k 0 ⌝ }
+{
+    if k < n {
+        return parts::names::at(from, p, k);
+    }
+    0
+}
+
+// The text of `n` bytes from `p` on, and zeros after it, to the `room` bytes from `q` on.
+pub fn copy_text(from: &[u8], p: usize, n: usize, to: &mut [u8], q: usize, room: usize)
+    requires { ⌜ q + room ≤ 1000000 ⌝ }
+    ensures { λ r. ⌜ Copied (cellsOf (now (from .entry)) p n) 0 (now (to .entry)) q room (now (to .exit)) ⌝ }
+{
+    let mut k: usize = 0;
+    while k < room {
+        put_byte(to, q + k, text_byte(from, p, n, k));
         k += 1;
     }
 }

@@ -23,13 +23,14 @@ use Rattle.parts.specs.Texts.{handle, moved}
 use Rattle.state.specs.Cell.{bit}
 use Rattle.state.specs.Items as Items
 use Rattle.state.specs.Items.{tag-of, number-of, byte-of, shape-of, there-of, Bounded, Holds, small-element}
+use Rattle.values.specs.declared.text.Handle.{Handle}
 use Rattle.values.specs.declared.scalar.Scalar.{Scalar}
 use Rattle.values.specs.declared.scalar.Scalar.the-variants.{Unknown, Truth, Int, Real, Text}
 use Rattle.values.specs.declared.list.Cell.{Cell}
 use Rattle.values.specs.declared.list.List as Code
 use Rattle.values.specs.declared.value.Value.{Value}
 use Rattle.values.specs.Meaning.{bytesOf, meaning, held, meaningL, valued, meaningV, cell, at, sizeOf}
-use Rattle.blocks.specs.Blocks.{Copied, Outside}
+use Rattle.blocks.specs.Blocks.{Copied, Outside, cells-long}
 
 -- ---- one element, as the code has it
 
@@ -78,8 +79,12 @@ number-means b (Text z) place n {r} l e (text-small i) h = h l (omega arith) ∙
 pub number-told : {x y : Scalar} (place n r : ℕ) → x ≡ y → NumberOf y place n r → NumberOf x place n r
 number-told place n r e h = subst (λ (z : Scalar). NumberOf z place n r) (sym e) h
 
-pub spelt-told : (b : List ℕ) {x y : Scalar} {r : List ℕ} → x ≡ y → r ≡ speltC b y → r ≡ speltC b x
-spelt-told b e h = h ∙ sym (ap (speltC b) e)
+-- the bytes of the element stand there
+abbrev pub SpeltAt : Scalar → Handle → Type 0
+SpeltAt x h = (b : List ℕ) → bytesOf b h ≡ speltC b x
+
+pub spelt-told : {x y : Scalar} (h : Handle) → x ≡ y → SpeltAt y h → SpeltAt x h
+spelt-told h e f b = f b ∙ sym (ap (speltC b) e)
 
 -- ---- a number, moved up: it fits a cell
 
@@ -151,14 +156,14 @@ pub record PutElement (b : List ℕ) (x : Scalar) (place i : ℕ) (s u o q : Lis
   pub cells : u ≡ set (set s (1 + i) (tagC x)) (18 + i) numbered
   pub bytes : Copied (speltC b x) 0 o (48 * i) 48 q
 
-pub put-element : (b : List ℕ) (x : Scalar) (place i : ℕ) (s o : List ℕ) (r : ℕ) {t s′ u q : List ℕ} {k : ℕ} → t ≡ speltC b x → Copied t 0 o (48 * i) 48 q → k ≡ tagC x → s′ ≡ set s (1 + i) k
-    → NumberOf x (place + 48 * i) (length t) r → u ≡ set s′ (18 + i) r → PutElement b x place i s u o q
-put-element b x place i s o r {q = q} e c f g h d =
+pub put-element : (b : List ℕ) (x : Scalar) (place i : ℕ) (s o : List ℕ) (h : Handle) (r : ℕ) {s′ u q : List ℕ} {k : ℕ} → SpeltAt x h → Copied (bytesOf b h) 0 o (48 * i) 48 q → k ≡ tagC x → s′ ≡ set s (1 + i) k
+    → NumberOf x (place + 48 * i) (h .len) r → u ≡ set s′ (18 + i) r → PutElement b x place i s u o q
+put-element b x place i s o h r {q = q} e c f g n d =
     record {
       numbered = r;
-      its = subst (λ (y : List ℕ). NumberOf x (place + 48 * i) (length y) r) e h;
+      its = subst (λ (y : ℕ). NumberOf x (place + 48 * i) y r) (sym (cells-long b (h .at) (h .len)) ∙ ap length (e b)) n;
       cells = d ∙ ap (λ (y : List ℕ). set y (18 + i) r) (g ∙ ap (set s (1 + i)) f);
-      bytes = subst (λ (y : List ℕ). Copied y 0 o (48 * i) 48 q) e c;
+      bytes = subst (λ (y : List ℕ). Copied y 0 o (48 * i) 48 q) (e b) c;
     }
 
 -- the j-th element is y

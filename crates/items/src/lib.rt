@@ -10,7 +10,7 @@ ghost use lib.IntN.{natAbs};
 ghost use Rattle.paper_expressions.specs.Limits.{real-limit};
 ghost use Rattle.parts.specs.Texts.{handle as handleOf, moved as movedOf};
 ghost use Rattle.state.specs.Cell.{bit as bitOf};
-ghost use Rattle.items.specs.Encode.{tagC, speltC, NumberOf, ElementOf, ShapeOf, PutElement, Encodes};
+ghost use Rattle.items.specs.Encode.{tagC, SpeltAt, NumberOf, ElementOf, ShapeOf, PutElement, Encodes};
 
 // A number of a value as a cell holds it.
 fn moved(n: Num) -> u32
@@ -71,16 +71,16 @@ fn number(x: Scalar, place: usize, n: usize) -> u32
     }
 }
 
-// The bytes of an element: none, if it is no text.
-fn spelt(b: &[u8], x: Scalar) -> &[u8]
-    ensures { λ r. ⌜ now r ≡ speltC (now (b .entry)) x ⌝ }
+// Where the bytes of an element stand: nowhere, if it is no text.
+fn spelt(x: Scalar) -> Handle
+    ensures { λ r. ⌜ SpeltAt x r ⌝ }
 {
     match x {
-        Scalar::Unknown => values::part(b, Handle { at: 0, len: 0 }),
-        Scalar::Truth(_) => values::part(b, Handle { at: 0, len: 0 }),
-        Scalar::Int(_) => values::part(b, Handle { at: 0, len: 0 }),
-        Scalar::Real(_) => values::part(b, Handle { at: 0, len: 0 }),
-        Scalar::Text(h) => values::part(b, h),
+        Scalar::Unknown => Handle { at: 0, len: 0 },
+        Scalar::Truth(_) => Handle { at: 0, len: 0 },
+        Scalar::Int(_) => Handle { at: 0, len: 0 },
+        Scalar::Real(_) => Handle { at: 0, len: 0 },
+        Scalar::Text(h) => h,
     }
 }
 
@@ -117,11 +117,10 @@ fn put_element(b: &[u8], x: Scalar, place: usize, cells: &mut [u32], out: &mut [
     requires { ⌜ (i < 16) × (place < 100000) ⌝ }
     ensures { λ r. ⌜ PutElement (now (b .entry)) x place i (now (cells .entry)) (now (cells .exit)) (now (out .entry)) (now (out .exit)) ⌝ }
 {
-    let t = spelt(b, x);
-    let n = t.len();
-    blocks::copy_bytes(t, 0, out, 48 * i, 48);
+    let h = spelt(x);
+    blocks::copy_text(b, h.at, h.len, out, 48 * i, 48);
     blocks::put_cell(cells, 1 + i, tag(x));
-    blocks::put_cell(cells, 18 + i, number(x, place + 48 * i, n));
+    blocks::put_cell(cells, 18 + i, number(x, place + 48 * i, h.len));
 }
 
 // Writes a value, whose texts have their places from `place` on among the text bytes.
