@@ -97,7 +97,7 @@ module _ {chunk kept kept′ : List ℕ} {s : State} {t : Taken} (took : Takes c
   ends e l next = record {
     writes = line-written (s .number) (l .answer);
     put = l .put;
-    run = λ few chunks more h. line-ends took e (l .answers) (subst (λ (k : ℕ). Run kept′ 0 k chunk (t .at) chunks more) (next ∙ rw (lt-ltb (s .number) number-limit few)) h);
+    run = λ few chunks more h. line-ends {number = s .number} took e (l .answers) (subst (λ (k : ℕ). Run kept′ 0 k chunk (t .at) chunks more) (next ∙ rw (lt-ltb (s .number) number-limit few)) h);
     onward = moves-on took;
     taken = t;
     took = took;
