@@ -22,7 +22,7 @@ use Rattle.paper_expressions.specs.Expressions.{Expr}
 
 -- ---- 8.1: the state of a guideline; 01: "A series of calls starts from an empty guideline"
 
--- structure: the guideline itself, as Bare has it
+-- structure: the guideline itself, as Bare has it; the Changes table is empty between calls, and the lent one is below      (01: no random number)
 pub record Guideline : Type 0 where
   pub structure : List TopLevel
   pub table : Table
@@ -101,8 +101,8 @@ Replaces sets t t′ = (c : Component) (p : Property) → Replaced sets c p (t c
 pub data ConfirmTask (T : ℕ) : Component → Property → Option RowValue → Type 0 where
   confirm-2 : ConfirmTask T (task № T) confirmed (some (truth-row true))
 
--- 8.3.6  AddDataValue(D, V): 1. remove (D, value, V')   2. Add the rows (D, value, V) and (D, requested, false); 01: "an added value [replaces] the requested row"
---   3. mandatory_validation: left out (10)      4. warning conditions: no production has one
+-- 8.3.6  AddDataValue(D, V), D a data item      (a parameter: left out (10); request 8/13): 1. remove (D, value, V')   2. Add the rows (D, value, V) and (D, requested, false); 01: "an added value [replaces] the requested row"
+--   3. mandatory_validation: left out (10)      4. warning conditions: no production has one (decided)
 pub data AddDataValue (d : ℕ) (w : Value) : Component → Property → Option RowValue → Type 0 where
   add-2a : AddDataValue d w (data-item № d) value (some (value-is w))
   add-2b : AddDataValue d w (data-item № d) requested (some (truth-row false))
@@ -125,6 +125,7 @@ pub data ShownAs (p : Property) : RowValue → Shown → Type 0 where
   shown-time : {n : ℕ} → ShownAs p (time-is n) (shows-time n)
   shown-component : {c : Component} → ShownAs p (component-is c) (shows-component c)
   there-expression : {e : Expr} → ShownAs p (expression-is e) there
+  -- an assertion is made of expressions      (decided)
   there-assertion : {l : List Assigns} → ShownAs p (assertion-is l) there
   there-components : {l : List Component} → ShownAs p (components-are l) there
 
@@ -141,9 +142,9 @@ pub data Reads (t : Table) (k n p : ℕ) : Shown → Type 0 where
 
 -- ---- the calls, with what they are given
 
-pub data Call : Type 1 where
+pub data Call : Type 0 where
   -- the text; whether some lent table is too short
-  load : List ℕ → Type 0 → Call
+  load : List ℕ → Bool → Call
   -- the bound; the length of the lent Changes table
   run : ℕ → ℕ → Call
   set-engine-time : ℕ → Call
@@ -166,13 +167,13 @@ abbrev refusal : ℕ → Reply
 refusal n = refuses n 0 0
 
 -- Calls c s r s′: the call c in the state s has the reply r and leaves the state s′. "Other calls test 7, 8, 9, 6 in that order .. and change no byte."
-pub data Calls : Call → State → Reply → State → Type 1 where
-  -- ---- load (8.3.1): "An accepted load starts afresh, at engine time 0."
-  load-done : {text : List ℕ} {Short : Type 0} {s : State} {g : List TopLevel} {t : Table}
-      → Answers Short text loads → Read text g → Initial (bare-guideline g) t
-      → Calls (load text Short) s done (loaded (record { structure = bare-guideline g; table = t; flag = false; time = 0 }))
+pub data Calls : Call → State → Reply → State → Type 0 where
+  -- ---- load (8.3.1; 12.1, 2. Set the Exception flag to false): "An accepted load starts afresh, at engine time 0."
+  load-done : {text : List ℕ} {short : Bool} {s : State} {g : List TopLevel} {t : Table}
+      → Answers (short ≡ true) text loads → Read text g → Initial (bare-guideline g) t
+      → Calls (load text short) s done (loaded (record { structure = bare-guideline g; table = t; flag = false; time = 0 }))
   -- "A refused load returns number and place and leaves an empty guideline"
-  load-refused : {text : List ℕ} {Short : Type 0} {s : State} {n p : ℕ} → Answers Short text (refused n p) → Calls (load text Short) s (refuses n p 0) empty
+  load-refused : {text : List ℕ} {short : Bool} {s : State} {n p : ℕ} → Answers (short ≡ true) text (refused n p) → Calls (load text short) s (refuses n p 0) empty
   -- ---- run (8.3.2)
   run-7 : {s : State} {n lent : ℕ} → Unready s → Calls (run n lent) s (refusal 7) s
   run-6-bound : {g : Guideline} {n lent : ℕ} → ¬ Unready (loaded g) → cycle-limit < n → Calls (run n lent) (loaded g) (refusal 6) (loaded g)
@@ -222,12 +223,12 @@ pub data Leaves {Row : Type 0} (blank : Row) : Reply → List Row → List Row �
   left-as-it-was : {n p c : ℕ} {rows : List Row} → Leaves blank (refuses n p c) rows rows
 
 -- a run with the bound n, given these rows
-pub record CallsRun {Row : Type 0} (blank : Row) (n : ℕ) (rows : List Row) (s : State) (r : Reply) (s′ : State) (rows′ : List Row) : Type 1 where
+pub record CallsRun {Row : Type 0} (blank : Row) (n : ℕ) (rows : List Row) (s : State) (r : Reply) (s′ : State) (rows′ : List Row) : Type 0 where
   pub calls : Calls (run n (length rows)) s r s′
   pub leaves : Leaves blank r rows rows′
 
 -- ---- 01: "A series of calls starts from an empty guideline, and each call is given the guideline, state and tables (the Changes table aside) as the call before left them"
 
-pub data Series : State → Type 1 where
+pub data Series : State → Type 0 where
   no-call : Series empty
   then-call : {c : Call} {s s′ : State} {r : Reply} → Series s → Calls c s r s′ → Series s′

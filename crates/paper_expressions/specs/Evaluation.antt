@@ -8,6 +8,7 @@ use Rattle.paper_expressions.specs.Values.{Scalar, unknown, integer, rea
 use Rattle.paper_expressions.specs.Clauses.{Clause, §9·1-1a, §9·1-1b, §9·1-2a, §9·1-2b, §9·1-3, §9·1-4, §9·1-7, §9·1-8, §9·1-9, §9·2-2, §9·2-3}
 use Rattle.paper_expressions.specs.View.{View, Item, At, ResolveData}
 use Rattle.paper_expressions.specs.Operators.{Op, Infix, F}
+use Rattle.paper_expressions.specs.Called.{Calls}
 use Rattle.paper_expressions.specs.Expressions.{Expr, Exprs, Atom, IntegerLit, FloatLit, StringLit, Paren, Listing, Apply, ε, _▸_}
 
 -- ---- 9.2  EvaluateDataReference(D, T)
@@ -48,8 +49,8 @@ mutual
         → Infix o → Evaluates v T e1 cs v1 → Evaluates v T e2 ds v2 → F v T o (v1 ∷ v2 ∷ []) c r
         → Evaluates v T (Apply o (e1 ▸ e2 ▸ ε)) (§9·1-7 ∷ c ∷ []) r
     -- 8. If E is of the form Op "(" E1 "," ... "," En ")" where Op is a <functor_name> then Fop(T, V1, ..., Vn) where Vi = Evaluate(Ei,T)
-    functor-form : {o : Op} {es : Exprs} {ws : List Value} {r : Value} {c : Clause}
-        → ¬ Infix o → Values v T es ws → F v T o ws c r → Evaluates v T (Apply o es) (§9·1-8 ∷ c ∷ []) r
+    functor-form : {o : Op} {es : Exprs} {ws : List Value} {r : Value} {c : Clause} {cs : List Clause}
+        → ¬ Infix o → Values v T es ws → F v T o ws c r → Calls v T o ws cs → Evaluates v T (Apply o es) (§9·1-8 ∷ c ∷ cs) r
     -- 9. If E is a <set_enumeration> of the form "[" E1 "," ... "," En "]" then the sequence <Evaluate(E1,T), ..., Evaluate(En,T)>
     listing : {es : Exprs} {ws : List Value} {l : List Scalar}
         → Values v T es ws → Elements ws l → Evaluates v T (Listing es) (§9·1-9 ∷ []) (sequence l)

@@ -1,4 +1,4 @@
--- Expression trees, and their types: 4.1. Definitions only.
+-- The types of expressions: 4.1. Definitions only.
 use mathlib.Core.Path.{_≡_}
 use mathlib.Core.List.{List, [], _∷_}
 use Prim.Native.Nat.{ℕ}
@@ -7,23 +7,7 @@ use Rattle.paper_expressions.specs.Bytes.{Alike}
 use Rattle.paper_expressions.specs.Types.{Ty, Text, Integer, Real, SetofText, SetofReal, SetofInteger, SetofAnything, Promotes, inferred}
 use Rattle.paper_expressions.specs.View.{View, Item, At}
 use Rattle.paper_expressions.specs.Operators.{Allowed, _⇒_, Op, allowed}
-
--- ---- <expression>: an atom or a text by its bytes between the quotes, a float in thousandths; E1 Op E2 and Op(E1, .., En) are applied alike
-
-infixr 5 _▸_
-mutual
-  pub data Expr : Type 0 where
-    Atom : List ℕ → Expr
-    IntegerLit : ℤ → Expr
-    FloatLit : ℤ → Expr
-    StringLit : List ℕ → Expr
-    Paren : Expr → Expr
-    Listing : Exprs → Expr
-    Apply : Op → Exprs → Expr
-
-  pub data Exprs : Type 0 where
-    ε : Exprs
-    _▸_ : Expr → Exprs → Exprs
+pub use Rattle.paper_expressions.specs.Syntax.{Expr, Atom, IntegerLit, FloatLit, StringLit, Paren, Listing, Apply, Exprs, ε, _▸_}
 
 -- ---- 4.1, 9: a list, from the types of its elements
 

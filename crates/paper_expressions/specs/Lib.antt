@@ -3,6 +3,7 @@ pub mod Limits
 pub mod Values
 pub mod Types
 pub mod Clauses
+pub mod Syntax
 pub mod View
 pub mod Operators
 pub mod Expressions

@@ -16,22 +16,23 @@ pub record Typed : Type 0 where
   pub attached : ℕ
 
 -- an item for every element
-abbrev each : {A B : Type 0} → (A → List B) → List A → List B
+abbrev pub each : {A B : Type 0} → (A → List B) → List A → List B
 each f [] = []
 each f (a ∷ l) = f a ++ each f l
 
-abbrev typed : ℕ → Role → Outermost → List Typed
+-- an expression by itself; those of an attribute
+abbrev pub typed : ℕ → Role → Outermost → List Typed
 typed t r x = record { expression = x; role = r; attached = t } ∷ []
 
-abbrev of-generic : ℕ → Generic → List Typed
+abbrev pub of-generic : ℕ → Generic → List Typed
 of-generic t (caption x) = typed t wording x
 of-generic t (description x) = typed t wording x
 
-abbrev of-source : ℕ → SourceAttribute → List Typed
+abbrev pub of-source : ℕ → SourceAttribute → List Typed
 of-source t (source-generic g) = of-generic t g
 of-source t (mandatory b) = []
 
-abbrev of-attribute : ℕ → Attribute → List Typed
+abbrev pub of-attribute : ℕ → Attribute → List Typed
 of-attribute t (generic g) = of-generic t g
 of-attribute t (precondition x) = typed t condition x
 of-attribute t (wait-condition x) = typed t condition x
@@ -42,7 +43,7 @@ of-attribute t (component n xs) = []
 of-attribute t (source n xs) = each (λ (a : Placed SourceAttribute). of-source t (a .what)) xs
 
 -- tasks are counted from 0; "Expressions appearing in the definition of data items are attached to the root plan", task 0
-abbrev expressions-from : ℕ → List TopLevel → List Typed
+abbrev pub expressions-from : ℕ → List TopLevel → List Typed
 expressions-from t [] = []
 expressions-from t (task k ∷ g) = each (λ (a : Placed Attribute). of-attribute t (a .what)) (k .attributes) ++ expressions-from (suc t) g
 expressions-from t (data-item d ∷ g) = each (λ (a : Placed Generic). of-generic 0 (a .what)) (d .attributes) ++ expressions-from t g
@@ -50,7 +51,8 @@ expressions-from t (data-item d ∷ g) = each (λ (a : Placed Generic). of-gener
 abbrev pub expressions : List TopLevel → List Typed
 expressions g = expressions-from 0 g
 
-abbrev assigned-in : Attribute → List Assignment
+-- what an attribute has of assignments, components and sources
+abbrev pub assigned-in : Attribute → List Assignment
 assigned-in (generic g) = []
 assigned-in (precondition x) = []
 assigned-in (wait-condition x) = []
@@ -60,14 +62,18 @@ assigned-in (trigger n) = []
 assigned-in (component n xs) = []
 assigned-in (source n xs) = []
 
+-- of one task, and of all
+abbrev pub assignments-of : Task → List Assignment
+assignments-of t = each (λ (a : Placed Attribute). assigned-in (a .what)) (t .attributes)
+
 abbrev pub assignments : List TopLevel → List Assignment
-assignments g = each (λ (t : Task). each (λ (a : Placed Attribute). assigned-in (a .what)) (t .attributes)) (tasks g)
+assignments g = each assignments-of (tasks g)
 
 pub record Component : Type 0 where
   pub named : Name
   pub attributes : List (Placed ComponentAttribute)
 
-abbrev component-in : Attribute → List Component
+abbrev pub component-in : Attribute → List Component
 component-in (generic g) = []
 component-in (precondition x) = []
 component-in (wait-condition x) = []
@@ -88,7 +94,7 @@ pub record Source : Type 0 where
   pub named : Name
   pub attributes : List (Placed SourceAttribute)
 
-abbrev source-in : Attribute → List Source
+abbrev pub source-in : Attribute → List Source
 source-in (generic g) = []
 source-in (precondition x) = []
 source-in (wait-condition x) = []

@@ -1,7 +1,7 @@
 -- The guideline that a load leaves: its structure without the places of the text (each is 0) and without parentheses, so that two texts which differ
 -- in blanks, comments or parentheses alone leave the same. Decided. Definitions only.
 use mathlib.Core.List.{List, [], _∷_, map}
-use Rattle.paper_expressions.specs.Laws.Parentheses.{bare}
+use Rattle.paper_expressions.specs.Syntax.{bare}
 use Rattle.paper_guideline.specs.Structure
 use Structure.{Name, Outermost, Placed, Assignment, ComponentAttribute, schedule-constraint, terminal, Generic, caption, description, SourceAttribute, source-generic, mandatory}
 use Structure.{Attribute, generic, precondition, wait-condition, terminate, postcondition, trigger, component, source, Task, DataItem, TopLevel, task, data-item}

@@ -1,6 +1,5 @@
 pub mod Booleans
 pub mod Lists
-pub mod Gathered
 pub mod Seen
 pub mod Ranks
 pub mod RowLists

@@ -1,6 +1,6 @@
 -- The Properties table: component identifiers (7.1), property names and their allowed values (section 10), values (7.4), rows (8.1, 8.2), and what evaluation reads of it. Definitions only.
 -- "Decided" marks what docs/DECISIONS.md rules; "left out (10)" what a guideline is refused for, with the request that brings it.
-use Prim.Native.Nat.{ℕ}
+use Prim.Native.Nat.{ℕ, suc}
 use mathlib.Core.Path.{_≡_}
 use mathlib.Core.Logic.{_↔_}
 use mathlib.Core.Bool.{Bool, true, false}
@@ -32,7 +32,7 @@ pub data Component : Type 0 where
 pub data Property : Type 0 where
   -- 10.1
   class name caption actual-caption description actual-description : Property
-  -- 10.2      (its current_cycle is cycle_count: 01 for 8.6.7)
+  -- 10.2      (decided: its current_cycle is cycle_count, as 01 has it for 8.6.7)
   state antecedent-tasks goal precondition wait-condition trigger trigger-active postcondition parameters parent-plan confirmatory confirmed : Property
   cycle-count nbr-cycles-value nbr-cycles-expression cycle-until cycle-interval cycle-interval-units start-at optional terminal lwth context : Property
   in-progress-time discarded-time completed-time : Property
@@ -71,7 +71,7 @@ properties =
     ∷ activated
     ∷ []
 
--- ---- 7.1, f: the class of a component
+-- ---- 7.1, f: the class of a component      (10.1 lists the same but generic_task; the argument of 12.7: left out (10), request 1/13)
 
 pub data Class : Type 0 where
   a-data-item a-generic-task a-plan a-decision an-enquiry an-action a-source a-candidate a-parameter a-warning-flag : Class
@@ -95,7 +95,7 @@ pub record Assigns : Type 0 where
 pub data RowValue : Type 0 where
   -- 1. unknown   2. true, false   4. a number   5. a text string   7. a sequence of these
   value-is : Value → RowValue
-  -- 3. the constants: the states of a task (7.5), the classes of a component
+  -- 3. the constants: the states of a task (7.5), the classes of a component      (symbolic, multiple, for and their fellows: left out (10), request 1/13)
   state-is : TaskState → RowValue
   class-is : Class → RowValue
   -- 10.7: the type of a data item, "One of text, integer, .."
@@ -148,7 +148,8 @@ pub data Allowed : Property → RowValue → Type 0 where
   allowed-confirmed : {b : Bool} → Allowed confirmed (truth-row b)
   -- "Any positive integer"; 8.5.2, 2 adds 0      (decided: no negative one)
   allowed-count : {n : ℕ} → Allowed cycle-count (integer-row (pos n))
-  allowed-cycles : {n : ℕ} → Allowed nbr-cycles-value (integer-row (pos n))
+  -- "Any positive integer"
+  allowed-cycles : {n : ℕ} → Allowed nbr-cycles-value (integer-row (pos (suc n)))
   -- "Any floating point number": an engine time
   allowed-start-at : {n : ℕ} → Allowed start-at (time-is n)
   allowed-terminal : {b : Bool} → Allowed terminal (truth-row b)
@@ -161,14 +162,15 @@ pub data Allowed : Property → RowValue → Type 0 where
   allowed-procedure : {s : List ℕ} → Allowed actual-procedure (text-row s)
   -- 10.6
   allowed-sources : {l : List Component} → AllOf source l → Allowed sources (components-are l)
-  -- 10.7
+  -- 10.7      (of "Any PROforma value", those that an expression comes to or a call adds)
   allowed-type : {d : Declared} → Allowed type (type-is d)
   allowed-value : {w : Value} → Allowed value (value-is w)
   allowed-requested : {b : Bool} → Allowed requested (truth-row b)
   -- 10.11
   allowed-data-item : {n : ℕ} → Allowed data-item-of (component-is (data-item № n))
   allowed-mandatory : {b : Bool} → Allowed mandatory (truth-row b)
-  -- the other properties have no rows: left out (10); requests 1/13 (10.4, 10.8, 10.9), 4/13 (the expressions of cycles), 8/13 (10.10), 9/13 (range)
+  -- the other properties have no rows: captions and descriptions (01), warning conditions (no production has one: decided), and what is left out (10):
+  -- requests 1/13 (10.4, 10.8, 10.9), 4/13 (the expressions of cycles), 8/13 (parameters, 10.10), 9/13 (range); the rest no request brings
 
 -- ---- 8.1: "the Properties table is a function which is a subset of (C × P) → V"
 

@@ -2,6 +2,7 @@
 -- that every row is allowed and of a component that is there, and that the lent Changes table is long enough.
 use Prim.Native.Nat.{ℕ, _+_, _*_, _≤_}
 use native.Mathlib.Omega.{arith}
+use mathlib.Core.Bool.{Bool}
 use mathlib.Core.Path.{_≡_, refl, sym, ap, subst, _∙_}
 use mathlib.Core.List.{List}
 use lib.ListN.{length}
@@ -67,7 +68,7 @@ refused-call x (trigger-6 u b) = unchanged too-large
 refused-call x read-7 = unchanged not-ready
 
 -- "A refused load .. leaves an empty guideline"
-pub refused-load : {Short : Type 0} {text : List ℕ} {s s′ : State} {n p k : ℕ} → Calls (load text Short) s (refuses n p k) s′ → (s′ ≡ empty) × (k ≡ 0)
+pub refused-load : {short : Bool} {text : List ℕ} {s s′ : State} {n p k : ℕ} → Calls (load text short) s (refuses n p k) s′ → (s′ ≡ empty) × (k ≡ 0)
 refused-load (load-refused a) = (refl, refl)
 
 -- ---- every expression, in every view of a state that calls reach

@@ -191,6 +191,17 @@ send? t trig c p = go c (decided (is-same-property p trigger-active))
     go (Table.source № n) d = no (λ h. let k = h .1 in elim k [ ])
     go (Table.warning-condition № n) d = no (λ h. let k = h .1 in elim k [ ])
 
+-- the table that each of them leaves
+
+pub confirms : (T : ℕ) (t : Table) → (t′ : Table) × Replaces (ConfirmTask T) t t′
+confirms T t = replace (confirm? T) t
+
+pub adds-value : (d : ℕ) (w : Value) (t : Table) → (t′ : Table) × Replaces (AddDataValue d w) t t′
+adds-value d w t = replace (add? d w) t
+
+pub sends : (t : Table) (trig : List ℕ) → (t′ : Table) × Replaces (SendTrigger t trig) t t′
+sends t trig = replace (send? t trig) t
+
 -- ---- reading
 
 shown : (p : Property) (r : RowValue) → (s : Shown) × ShownAs p r s
@@ -231,7 +242,7 @@ reads t k n p = by-kind (atF kinds k) refl
 
 -- ---- every call
 
-pub record Replied (c : Call) (s : State) : Type 1 where
+pub record Replied (c : Call) (s : State) : Type 0 where
   pub reply : Reply
   pub after : State
   pub its : Calls c s reply after
@@ -240,7 +251,7 @@ replied : {c : Call} {s s′ : State} {r : Reply} → Calls c s r s′ → Repli
 replied h = record { reply = _; after = _; its = h }
 
 -- load, when reading has its answer
-pub load-replies : {Short : Type 0} {text : List ℕ} {a : Answer} (s : State) → Answers Short text a → Replied (load text Short) s
+pub load-replies : {short : Bool} {text : List ℕ} {a : Answer} (s : State) → Answers (short ≡ true) text a → Replied (load text short) s
 load-replies s (is-loaded r n) = replied (load-done (is-loaded r n) r (initial (bare-lawful (lawful (is-loaded r n) r))))
 load-replies s (is-refused h) = replied (load-refused (is-refused h))
 
@@ -276,7 +287,7 @@ module _ {g : Guideline} (l : Lawful (g .structure)) (k : Kept (g .structure) (g
       go : Dec (Unready (loaded g)) → Dec (TaskId (g .table) T) → Replied (confirm-task T) (loaded g)
       go (yes u) b = replied (confirm-7 u)
       go (no u) (no b) = replied (confirm-8 u b)
-      go (no u) (yes b) = replied (confirm-done u b (replace (confirm? T) (g .table) .1))
+      go (no u) (yes b) = replied (confirm-done u b (confirms T (g .table) .1))
 
   add-replies : (d : ℕ) (w : Option Value) → Replied (add-data-value d w) (loaded g)
   add-replies d w = go w (unready? g) (decided (is-held sees-class is-same-class (g .table (data-item № d) class) a-data-item))
@@ -298,12 +309,12 @@ module _ {g : Guideline} (l : Lawful (g .structure)) (k : Kept (g .structure) (g
       go : Dec (Unready (loaded g)) → Dec (SmallText trig) → Replied (send-trigger trig) (loaded g)
       go (yes u) b = replied (trigger-7 u)
       go (no u) (no b) = replied (trigger-6 u b)
-      go (no u) (yes b) = replied (trigger-done u b (replace (send? (g .table) trig) (g .table) .1))
+      go (no u) (yes b) = replied (trigger-done u b (sends (g .table) trig .1))
 
   read-replies : (x n p : ℕ) → Replied (read-row x n p) (loaded g)
   read-replies x n p = replied (read-done (reads (g .table) x n p .1))
 
-pub data NotLoad : Call → Type 1 where
+pub data NotLoad : Call → Type 0 where
   is-run : {n lent : ℕ} → NotLoad (run n lent)
   is-time : {x : ℕ} → NotLoad (set-engine-time x)
   is-confirm : {T : ℕ} → NotLoad (confirm-task T)
@@ -327,7 +338,7 @@ call-replies (good-loaded l z t m) (is-read {k = x} {n} {p}) = read-replies l (t
 
 -- ---- exactly one reply
 
-pub record OneReply (c : Call) (s : State) : Type 1 where
+pub record OneReply (c : Call) (s : State) : Type 0 where
   pub reply : Reply
   pub after : State
   pub its : Calls c s reply after
@@ -340,9 +351,13 @@ only-reply h = record { reply = h .reply; after = h .after; its = h .its; only =
 pub one-reply : {c : Call} {s : State} → Series s → NotLoad c → OneReply c s
 one-reply h n = only-reply (call-replies (series-good h) n)
 
--- of a load, in any state, for every text; whether a lent table is too short is decided
-pub one-load : {Short : Type 0} → Dec Short → (text : List ℕ) (s : State) → OneReply (load text Short) s
-one-load short b s = only-reply (load-replies s (exactly-one-answer short b .fits))
+-- of a load, in any state, for every text
+pub one-load : (short : Bool) (text : List ℕ) (s : State) → OneReply (load text short) s
+one-load short b s = only-reply (load-replies s (exactly-one-answer (is-true? short) b .fits))
+  where
+    is-true? : (x : Bool) → Dec (x ≡ true)
+    is-true? true = yes refl
+    is-true? false = no (λ e. no-clash (cc))
 
 -- ---- the lent Changes table is left in one way
 

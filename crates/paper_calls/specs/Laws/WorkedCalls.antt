@@ -178,7 +178,7 @@ small-alarm = record { short = omega arith; ascii = λ {i} {b} h. ascii h }
     ascii (at-later (at-later (at-later at-first))) = omega arith
     ascii (at-later (at-later (at-later (at-later at-first)))) = omega arith
 
-pub record Triggered : Type 1 where
+pub record Triggered : Type 0 where
   pub first : Calls (run 256 1024) (state-of triggered (lookF (loadF triggered))) (ran (ends quiet 1)) (state-of triggered waiting)
   pub sent : Calls (send-trigger (bytes "alarm")) (state-of triggered waiting) done (state-of triggered alarmed)
   pub active : alarmed (task № 1) trigger-active ≡ some (truth-row true)

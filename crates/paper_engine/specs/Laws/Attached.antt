@@ -19,7 +19,7 @@ use Rattle.paper_rows.specs.Table.{_№_, Assigns, expression-is, assertion-is}
 use Rattle.paper_rows.specs.Load as Load
 use Load.{InstantiateTask, SetTaskAttribute, task-4, assigns, Adds, attribute-5-precondition, attribute-5-wait-condition, attribute-5-terminate, attribute-5-postcondition}
 use Rattle.paper_rows.specs.Laws.Lawful.{Lawful, defined}
-use Rattle.paper_rows.specs.Laws.Gathered.{typed, of-generic, of-source, of-attribute, expressions-from}
+use Rattle.paper_guideline.specs.Parts.{typed, of-generic, of-source, of-attribute, expressions-from}
 use Rattle.paper_rows.specs.Laws.Lists.{at-left, at-right, each, each-at, map-at}
 
 -- ---- where an expression stands among all

@@ -340,7 +340,7 @@ module _ {g : List TopLevel} {t : Table} (lawful : Lawful g) (kept : Kept g t) w
     where
       go : {p : Property} {n : ℤ} → Allowed p (integer-row n) → p ≡ cycle-count → (m : ℕ) × (n ≡ pos m)
       go (allowed-count {n = m}) e = (m, refl)
-      go (allowed-cycles {n = m}) e = (m, refl)
+      go (allowed-cycles {n = m}) e = (suc m, refl)
       go allowed-value e = absurd (no-clash (cc))
 
   one-more : (m : ℕ) → pos m +ℤ pos 1 ≡ pos (m + 1)

@@ -22,7 +22,7 @@ use Load.{source-3, source-4, source-5, source-7, source-8, data-item-3, data-it
 use Rattle.paper_rows.specs.Laws.Lawful.{Lawful, defined}
 use Rattle.paper_rows.specs.Laws.SingleLaws.{source-at}
 use Rattle.paper_rows.specs.Laws.Sized.{Plain, Sized}
-use Rattle.paper_rows.specs.Laws.Gathered.{of-attribute}
+use Rattle.paper_guideline.specs.Parts.{of-attribute}
 use Rattle.paper_rows.specs.Laws.Booleans.{decided}
 use Rattle.paper_rows.specs.Laws.Deciding.{as?, some?}
 use Rattle.paper_rows.specs.Laws.Ranks.{is-same-property}

@@ -35,7 +35,7 @@ use Rattle.paper_rows.specs.Laws.Ranks.{same-class, is-same-class}
 use Rattle.paper_rows.specs.Laws.RowLists
 use RowLists.{Rows, Row, a-row, Listed, Only, it, listed-only, listed-none, listed-as, _or_, listed-or, onlyIf, listed-if, whatF, listed-held, Each, eachF, listed-each, total, each-most, if-most, what-most}
 use Rattle.paper_rows.specs.Laws.Lists.{each}
-use Rattle.paper_rows.specs.Laws.Gathered.{assigned-in, assignments-of}
+use Rattle.paper_guideline.specs.Parts.{assigned-in, assignments-of}
 use Rattle.paper_rows.specs.Laws.Lawful.{Lawful, defined}
 use Rattle.paper_engine.specs.Laws.CollisionLaws.{one-clause}
 use Rattle.paper_engine.specs.Laws.Kept.{Kept, adds, instantiated, task-id, fixed-postcondition, fixed-sources, viewF, view-of, view-sound, same-items, one-view}

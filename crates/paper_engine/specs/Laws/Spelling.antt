@@ -153,7 +153,7 @@ module _ (τ : View) (T : ℕ) (read : Read τ) where
     well-spelt string m = one-spelt (spelt-text m)
     well-spelt (parentheses h) m = well-spelt h m
     well-spelt (infix-form i g h k) m = F-spelt k (more-values (well-spelt g (m .0)) (more-values (well-spelt h (m .1 .0)) no-values))
-    well-spelt (functor-form n hs k) m = F-spelt k (all-spelt hs m)
+    well-spelt (functor-form n hs k d) m = F-spelt k (all-spelt hs m)
     well-spelt (listing hs k) m = list-spelt (elements-spelt k (all-spelt hs m))
 
     all-spelt : {es : Exprs} {ws : List Value} → Values τ T es ws → AllPlain es → AllSpelt ws

@@ -17,7 +17,7 @@ use Structure.{Name, Outermost, Placed, Assignment, ComponentAttribute, schedule
 use Rattle.paper_guideline.specs.Laws.NameTwin.{name-places}
 use Rattle.paper_guideline.specs.Laws.FittingTwin.{type-places}
 use Rattle.paper_rows.specs.Table
-use Table.{task, data-item, Component, _№_, Property, state, cycle-count, completed-time, value, requested, RowValue, time-is, unknown-row, truth-row, integer-row, Table, properties, kinds}
+use Table.{task, data-item, Component, _№_, Property, state, trigger-active, cycle-count, completed-time, value, requested, RowValue, time-is, unknown-row, truth-row, integer-row, Table, properties, kinds}
 use Rattle.paper_rows.specs.Load.{Initial}
 use Rattle.paper_engine.specs.Cycle.{Ending, quiet, bounded, exception, Report, ends, Runs}
 use Rattle.paper_rows.specs.Laws.Seen.{stateF}
@@ -121,6 +121,10 @@ unwanted =
 abbrev pub triggered : List TopLevel
 triggered = define plan "flood" (part "pump" [] ∷ []) ∷ define enquiry "pump" (Structure.trigger (called "alarm") ∷ []) ∷ []
 
+-- the same, terminal: completed by its trigger, it is not initialised, and the plan completes
+abbrev pub triggered-terminal : List TopLevel
+triggered-terminal = define plan "flood" (part "pump" (Structure.terminal true ∷ []) ∷ []) ∷ define enquiry "pump" (Structure.trigger (called "alarm") ∷ []) ∷ []
+
 -- a mandatory source: the item is requested, and the enquiry waits
 abbrev pub mandatory-source : List TopLevel
 mandatory-source =
@@ -158,6 +162,15 @@ worked-unwanted = worked unwanted 256 refl refl refl refl
 pub worked-triggered : Worked triggered 256 ((1 ∷ 0 ∷ []) ∷ []) (ends quiet 1)
 unfolding evaluateF scheduleF scheduledF startF initialise-upF terminationF discard-2F discard-upF settledF completeF cycleF reviewF changesF targetF enactF collisionF properties kinds
 worked-triggered = worked triggered 256 refl refl refl refl
+
+-- 8.6.1: with its trigger active it starts, completes and is initialised; where it is terminal, it stays completed
+abbrev pub alarmed : List TopLevel → Table
+alarmed g = enactF (a-row (task № 1) trigger-active (truth-row true) ∷ []) (leftF g 256)
+
+pub worked-again : (traceF triggered 7 3 (alarmed triggered) ≡ (1 ∷ 1 ∷ []) ∷ (1 ∷ 3 ∷ []) ∷ (1 ∷ 0 ∷ []) ∷ [])
+    × (traceF triggered-terminal 7 3 (alarmed triggered-terminal) ≡ (1 ∷ 1 ∷ []) ∷ (1 ∷ 3 ∷ []) ∷ (3 ∷ 3 ∷ []) ∷ [])
+unfolding evaluateF scheduleF scheduledF startF initialise-upF terminationF discard-2F discard-upF settledF completeF cycleF reviewF changesF targetF enactF collisionF properties kinds
+worked-again = (refl, refl)
 
 pub worked-source : Worked mandatory-source 256 ((1 ∷ 0 ∷ []) ∷ (1 ∷ 1 ∷ []) ∷ []) (ends quiet 2) × (leftF mandatory-source 256 (data-item № 0) requested ≡ some (truth-row true)) × (leftF mandatory-source 256 (data-item № 0) value ≡ none)
 unfolding evaluateF scheduleF scheduledF startF initialise-upF terminationF discard-2F discard-upF settledF completeF cycleF reviewF changesF targetF enactF collisionF properties kinds

@@ -10,21 +10,8 @@ use Rattle.paper_expressions.specs.Operators.{Op}
 use Rattle.paper_expressions.specs.Expressions.{Expr, Exprs, Atom, IntegerLit, FloatLit, StringLit, Paren, Listing, Apply, ε, _▸_}
 use Rattle.paper_expressions.specs.Expressions.{HasType, rule-1b, rule-1c, rule-2, rule-3, rule-4, rule-5, rule-8-9, rule-10, HaveTypes, types-none, types-more}
 use Rattle.paper_expressions.specs.Evaluation.{Evaluates, atom-data, atom-text, number-integer, number-float, string, parentheses, infix-form, functor-form, listing, Values, values-none, values-more}
+pub use Rattle.paper_expressions.specs.Syntax.{bare, bares}
 use Rattle.paper_expressions.specs.Laws.Promise.{apply-fits, operands}
-
-abbrev mutual
-  pub bare : Expr → Expr
-  bare (Atom a) = Atom a
-  bare (IntegerLit n) = IntegerLit n
-  bare (FloatLit n) = FloatLit n
-  bare (StringLit s) = StringLit s
-  bare (Paren e) = bare e
-  bare (Listing es) = Listing (bares es)
-  bare (Apply o es) = Apply o (bares es)
-
-  pub bares : Exprs → Exprs
-  bares ε = ε
-  bares (e ▸ es) = bare e ▸ bares es
 
 module _ (τ : View) (T : ℕ) where
   -- ---- the same types
@@ -72,7 +59,7 @@ module _ (τ : View) (T : ℕ) where
     value-to-bare string = (_, string)
     value-to-bare (parentheses h) = value-to-bare h
     value-to-bare (infix-form i g h k) = (_, infix-form i (value-to-bare g .1) (value-to-bare h .1) k)
-    value-to-bare (functor-form n hs k) = (_, functor-form n (values-to-bare hs) k)
+    value-to-bare (functor-form n hs k d) = (_, functor-form n (values-to-bare hs) k d)
     value-to-bare (listing hs h) = (_, listing (values-to-bare hs) h)
 
     values-to-bare : {es : Exprs} {ws : List Value} → Values τ T es ws → Values τ T (bares es) ws

@@ -1,23 +1,25 @@
 -- Law: of an expression that has a type, in a sound view, at every part exactly one clause fits and gives exactly one value, which is
 -- unknown or of the part's type. By induction on the typing; uniqueness by a function, evalF, that the clauses agree with.
-use mathlib.Core.Path.{_≡_, refl, subst, subst₂}
+use mathlib.Core.Path.{_≡_, refl, ap, subst, subst₂}
 use mathlib.Core.List.{List, [], _∷_}
 use mathlib.Core.Option.{Option, none, some}
 use Prim.Native.Nat.{ℕ}
-use Rattle.paper_expressions.specs.Values.{Scalar, unknown, integer, real, text, Value, one, sequence}
+use Rattle.paper_expressions.specs.Values.{Scalar, unknown, truth, integer, real, text, Value, one, sequence, TaskState}
 use Rattle.paper_expressions.specs.Types.{Ty, Text, Integer, Real, inferred, OfScalar, unknown-of-any, integer-of, integer-counts-as-real, real-of, text-of}
 use Rattle.paper_expressions.specs.Types.{element-text, element-integer, element-real, EachOf, each-none, each-more, Of, of-scalar, of-list, of-empty}
 use Rattle.paper_expressions.specs.Clauses.{Clause, §9·1-1a, §9·1-1b, §9·1-2a, §9·1-2b, §9·1-3, §9·1-4, §9·1-7, §9·1-8, §9·1-9, §9·2-2, §9·2-3, §9·5-2, §9·5-3}
 use Rattle.paper_expressions.specs.View.{View, Item, At, ResolveData, resolve-data-2, resolve-data-3, Apart, Sound}
 use Rattle.paper_expressions.specs.Operators.{Allowed, _⇒_, Op, arithmetic, divide, compare, and, or, includes, oneof, if, negate, isknown, not, count, sum, extreme, nth, is-in, no-such}
 use Rattle.paper_expressions.specs.Operators.{Infix, infix-arithmetic, infix-divide, infix-compare, infix-and, infix-or, infix-includes, infix-oneof}
-use Rattle.paper_expressions.specs.Operators.{F, F-arithmetic, F-divide, F-compare, F-and, F-or, F-includes, F-oneof}
+use Rattle.paper_expressions.specs.Operators.{F, F-arithmetic, F-divide, F-compare, F-and, F-or, F-includes, F-oneof, F-if, F-negate, F-isknown, F-not, F-count, F-sum, F-extreme, F-nth, F-is-in}
+use Rattle.paper_expressions.specs.Operators.{Resolved, by-text, by-unknown, is-in-1, is-in-2, is-in-3}
+use Rattle.paper_expressions.specs.Called.{AsksTask, asks-task, Calls, calls-task, calls-nothing}
 use Rattle.paper_expressions.specs.Expressions.{Expr, Exprs, Atom, IntegerLit, FloatLit, StringLit, Paren, Listing, Apply, ε, _▸_, Each, all-none, all-more, TextType, text-type, IntegerType, integer-type, IntegerOrReal, integer-or, or-real}
 use Rattle.paper_expressions.specs.Expressions.{Listed, rule-8, rule-9a, rule-9b, rule-9c, Among, here, there, Reaches, First, first, next, Applied, rule-10a, rule-10b}
 use Rattle.paper_expressions.specs.Expressions.{HasType, rule-1b, rule-1c, rule-2, rule-3, rule-4, rule-5, rule-8-9, rule-10, HaveTypes, types-none, types-more}
 use Rattle.paper_expressions.specs.Evaluation.{EvaluateData, data-2, data-3, Elements, elements-none, elements-more, Evaluates, atom-data, atom-text, number-integer, number-float, string, parentheses, infix-form, functor-form, listing, Values, values-none, values-more}
 use Rattle.paper_expressions.specs.Laws.Search.{no-clash, Same, atF, at-only, at-one, at-has}
-use Rattle.paper_expressions.specs.Laws.Resolve.{resolve-dataF, data-fits, data-same}
+use Rattle.paper_expressions.specs.Laws.Resolve.{resolve-dataF, data-fits, data-same, resolve-taskF, task-clause, task-fits, task-same}
 use Rattle.paper_expressions.specs.Laws.Finds.{Fit, none-fit, one-fits, fit-reaches, Finds, finds}
 use Rattle.paper_expressions.specs.Laws.Only.{Answer, gives, fails, same-answer, run, F-only}
 pub use Rattle.paper_expressions.specs.Promises.{Part, itself, of-paren, of-listing, of-apply, PartOfSome, of-first, of-rest, Promised}
@@ -145,9 +147,9 @@ pub data Two : List Value → Type 0 where
 
 -- ---- evaluation as a function
 
-abbrev pub under : Clause → Answer Clause → Answer (List Clause)
-under b (gives c r) = gives (b ∷ c ∷ []) r
-under b fails = fails
+abbrev pub under : Clause → List Clause → Answer Clause → Answer (List Clause)
+under b cs (gives c r) = gives (b ∷ c ∷ cs) r
+under b cs fails = fails
 
 abbrev pub dataF : Option Value → Answer (List Clause)
 dataF (some w) = gives (§9·1-1a ∷ §9·5-2 ∷ §9·2-2 ∷ []) w
@@ -192,8 +194,38 @@ module _ (τ : View) (T : ℕ) where
   atomF a none = gives (§9·1-1b ∷ §9·5-3 ∷ []) (one (text a))
   atomF a (some d) = dataF (item-value (atF (τ .items) d))
 
+  -- the clause of 9.6 that the operator calls
+  abbrev pub task-calledF : List Value → List Clause
+  task-calledF [] = []
+  task-calledF (one unknown ∷ ws) = []
+  task-calledF (one (truth b) ∷ ws) = []
+  task-calledF (one (integer n) ∷ ws) = []
+  task-calledF (one (real n) ∷ ws) = []
+  task-calledF (one (text a) ∷ []) = task-clause τ T a (resolve-taskF τ T a) ∷ []
+  task-calledF (one (text a) ∷ w ∷ ws) = []
+  task-calledF (sequence l ∷ ws) = []
+
+  abbrev pub calledF : Op → List Value → List Clause
+  calledF (arithmetic o) ws = []
+  calledF divide ws = []
+  calledF (compare o) ws = []
+  calledF and ws = []
+  calledF or ws = []
+  calledF includes ws = []
+  calledF oneof ws = []
+  calledF if ws = []
+  calledF negate ws = []
+  calledF isknown ws = []
+  calledF not ws = []
+  calledF count ws = []
+  calledF sum ws = []
+  calledF (extreme e) ws = []
+  calledF nth ws = []
+  calledF (is-in s) ws = task-calledF ws
+  calledF (no-such n) ws = []
+
   abbrev pub applyF : Op → Option (List Value) → Answer (List Clause)
-  applyF o (some ws) = under (formF o) (run τ T o ws)
+  applyF o (some ws) = under (formF o) (calledF o ws) (run τ T o ws)
   applyF o none = fails
 
   abbrev mutual
@@ -224,6 +256,48 @@ module _ (τ : View) (T : ℕ) where
       go none m = refl
       go (some w) m = absurd (m w refl)
 
+  infix-called : {o : Op} → Infix o → (ws : List Value) → calledF o ws ≡ []
+  infix-called infix-arithmetic ws = refl
+  infix-called infix-divide ws = refl
+  infix-called infix-compare ws = refl
+  infix-called infix-and ws = refl
+  infix-called infix-or ws = refl
+  infix-called infix-includes ws = refl
+  infix-called infix-oneof ws = refl
+
+  no-task : (s : TaskState) (ws : List Value) → ((a : List ℕ) → ¬ AsksTask (is-in s) ws a) → task-calledF ws ≡ []
+  no-task s [] n = refl
+  no-task s (one unknown ∷ ws) n = refl
+  no-task s (one (truth b) ∷ ws) n = refl
+  no-task s (one (integer m) ∷ ws) n = refl
+  no-task s (one (real m) ∷ ws) n = refl
+  no-task s (one (text a) ∷ []) n = absurd (n a asks-task)
+  no-task s (one (text a) ∷ w ∷ ws) n = refl
+  no-task s (sequence l ∷ ws) n = refl
+
+  none-called : (o : Op) (ws : List Value) → ((a : List ℕ) → ¬ AsksTask o ws a) → calledF o ws ≡ []
+  none-called (arithmetic o) ws n = refl
+  none-called divide ws n = refl
+  none-called (compare o) ws n = refl
+  none-called and ws n = refl
+  none-called or ws n = refl
+  none-called includes ws n = refl
+  none-called oneof ws n = refl
+  none-called if ws n = refl
+  none-called negate ws n = refl
+  none-called isknown ws n = refl
+  none-called not ws n = refl
+  none-called count ws n = refl
+  none-called sum ws n = refl
+  none-called (extreme e) ws n = refl
+  none-called nth ws n = refl
+  none-called (is-in s) ws n = no-task s ws n
+  none-called (no-such m) ws n = refl
+
+  calls-only : Apart τ → {o : Op} {ws : List Value} {cs : List Clause} → Calls τ T o ws cs → calledF o ws ≡ cs
+  calls-only apart (calls-task (asks-task {a}) h) = ap (λ (c : Clause). c ∷ []) (task-same τ T a (task-fits τ T a apart) h .clause)
+  calls-only apart {o} {ws} (calls-nothing n) = none-called o ws n
+
   mutual
     pub eval-only : Apart τ → {e : Expr} {cs : List Clause} {w : Value} → Evaluates τ T e cs w → evalF e ≡ gives cs w
     eval-only apart (atom-data {a} (resolve-data-2 h k) g) = rw (data-same τ T a apart (data-fits τ T a) (resolve-data-2 h k) .value) (item-only g)
@@ -232,8 +306,8 @@ module _ (τ : View) (T : ℕ) where
     eval-only apart number-float = refl
     eval-only apart string = refl
     eval-only apart (parentheses h) = rw (eval-only apart h)
-    eval-only apart (infix-form i g h k) = rw (eval-only apart g, eval-only apart h, F-only τ T apart k, infix-formF i)
-    eval-only apart (functor-form {o} n hs k) = rw (evals-only apart hs, F-only τ T apart k, functor-formF o n)
+    eval-only apart (infix-form i g h k) = rw (eval-only apart g, eval-only apart h, F-only τ T apart k, infix-formF i, infix-called i (_ ∷ _ ∷ []))
+    eval-only apart (functor-form {o} n hs k d) = rw (evals-only apart hs, F-only τ T apart k, functor-formF o n, calls-only apart d)
     eval-only apart (listing hs h) = rw (evals-only apart hs, elements-only h)
 
     pub evals-only : Apart τ → {es : Exprs} {ws : List Value} → Values τ T es ws → evalsF es ≡ some ws
@@ -262,17 +336,42 @@ module _ (τ : View) (T : ℕ) where
       → Two ws → Infix o → Values τ T es ws → F τ T o ws c r → (cs : List Clause) × Evaluates τ T (Apply o es) cs r
   infix-fits two i (values-more g (values-more h values-none)) k = (_, infix-form i g h k)
 
+  resolved-calls : {s : TaskState} {w : Value} {c : Option ℕ} → Resolved τ T w c → (cs : List Clause) × Calls τ T (is-in s) (w ∷ []) cs
+  resolved-calls (by-text h) = (_, calls-task asks-task h)
+  resolved-calls by-unknown = (_, calls-nothing (λ a q. elim q [ ]))
+
+  -- what the operator calls is resolved where it has a value
+  calls-of : {o : Op} {ws : List Value} {c : Clause} {r : Value} → F τ T o ws c r → (cs : List Clause) × Calls τ T o ws cs
+  calls-of (F-arithmetic h) = (_, calls-nothing (λ a q. elim q [ ]))
+  calls-of (F-divide h) = (_, calls-nothing (λ a q. elim q [ ]))
+  calls-of (F-compare h) = (_, calls-nothing (λ a q. elim q [ ]))
+  calls-of (F-and h) = (_, calls-nothing (λ a q. elim q [ ]))
+  calls-of (F-or h) = (_, calls-nothing (λ a q. elim q [ ]))
+  calls-of (F-includes h) = (_, calls-nothing (λ a q. elim q [ ]))
+  calls-of (F-oneof h) = (_, calls-nothing (λ a q. elim q [ ]))
+  calls-of (F-if h) = (_, calls-nothing (λ a q. elim q [ ]))
+  calls-of (F-negate h) = (_, calls-nothing (λ a q. elim q [ ]))
+  calls-of (F-isknown h) = (_, calls-nothing (λ a q. elim q [ ]))
+  calls-of (F-not h) = (_, calls-nothing (λ a q. elim q [ ]))
+  calls-of (F-count h) = (_, calls-nothing (λ a q. elim q [ ]))
+  calls-of (F-sum h) = (_, calls-nothing (λ a q. elim q [ ]))
+  calls-of (F-extreme h) = (_, calls-nothing (λ a q. elim q [ ]))
+  calls-of (F-nth h) = (_, calls-nothing (λ a q. elim q [ ]))
+  calls-of (F-is-in (is-in-1 h)) = resolved-calls h
+  calls-of (F-is-in (is-in-2 h e)) = resolved-calls h
+  calls-of (F-is-in (is-in-3 h n)) = resolved-calls h
+
   -- an application by its operands' values, of either form
   pub apply-fits : {o : Op} {es : Exprs} {ws : List Value} {c : Clause} {r : Value} → Values τ T es ws → F τ T o ws c r → (cs : List Clause) × Evaluates τ T (Apply o es) cs r
   apply-fits {o} {es} {r} hs h = go (infix? o)
     where
       go : Dec (Infix o) → (cs : List Clause) × Evaluates τ T (Apply o es) cs r
       go (yes i) = infix-fits (two-values i h) i hs h
-      go (no n) = (_, functor-form n hs h)
+      go (no n) = (_, functor-form n hs h (calls-of h .1))
 
   pub operands : {o : Op} {es : Exprs} {cs : List Clause} {r : Value} → Evaluates τ T (Apply o es) cs r → (ws : List Value) × (c : Clause) × Values τ T es ws × F τ T o ws c r
   operands (infix-form i g h k) = (_, _, values-more g (values-more h values-none), k)
-  operands (functor-form n hs k) = (_, _, hs, k)
+  operands (functor-form n hs k d) = (_, _, hs, k)
 
   pub record Comes (e : Expr) (t : Ty) : Type 0 where
     pub clauses : List Clause

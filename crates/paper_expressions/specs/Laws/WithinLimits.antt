@@ -152,7 +152,7 @@ module _ (τ : View) (T : ℕ) where
     limited string q (string-modest m) = one-limited (text-small m)
     limited (parentheses h) q (paren-modest m) = limited h q m
     limited (infix-form i g h k) q (apply-modest (more-modest m (more-modest n none-modest))) = F-limited k (more-limited (limited g q m) (more-limited (limited h q n) none-limited))
-    limited (functor-form n hs k) q (apply-modest m) = F-limited k (all-limited hs q m)
+    limited (functor-form n hs k d) q (apply-modest m) = F-limited k (all-limited hs q m)
     limited (listing {l} hs k) q (listing-modest b m) = list-limited {l = l} (let e = as-many hs k in omega arith) (elements-small k (all-limited hs q m))
 
     pub all-limited : {es : Exprs} {ws : List Value} → Values τ T es ws → Held τ → AllModest es → EachLimited ws

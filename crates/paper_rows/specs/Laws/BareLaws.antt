@@ -19,7 +19,8 @@ use Rattle.paper_guideline.specs.Refusals.{Fitting, fits-condition, fits-wordin
 use Rattle.paper_rows.specs.Bare
 use Bare.{bare-name, bare-expression, bare-placed, bare-assignment, bare-component, bare-generic, bare-source, bare-attribute, bare-task, bare-item, bare-top, bare-guideline}
 use Rattle.paper_rows.specs.Laws.Lists.{each, at-map, map-at}
-use Rattle.paper_rows.specs.Laws.Gathered.{typed, of-generic, of-source, of-attribute, expressions-from, assigned-in, assignments-of, component-in, source-in, generic-word, word-of, component-word, source-word}
+use Rattle.paper_guideline.specs.Parts.{typed, of-generic, of-source, of-attribute, expressions-from, assigned-in, assignments-of, component-in, source-in}
+use Rattle.paper_guideline.specs.Names.{generic-word, word-of, component-word, source-word}
 use Rattle.paper_rows.specs.Laws.Lawful.{Lawful}
 use Rattle.paper_rows.specs.Laws.LoadLaws.{reached-by-names}
 

@@ -30,7 +30,7 @@ use Rattle.paper_guideline.specs.Limits.{task-limit, data-item-limit, assignmen
 use Rattle.paper_guideline.specs.Refusals
 use Refusals.{TokenBreach, long-name, long-text, large-integer, large-real, text-stage, limit-stage, high-byte, token-breach, long-list, many-tasks, many-data-items, many-assignments, many-sources, Read, Answers, loads, is-loaded}
 use Rattle.paper_rows.specs.Laws.Lists.{no-element, each, at-each, map-at, parted}
-use Rattle.paper_rows.specs.Laws.Gathered.{typed, of-generic, of-source, of-attribute, expressions-from}
+use Rattle.paper_guideline.specs.Parts.{typed, of-generic, of-source, of-attribute, expressions-from}
 use Rattle.paper_rows.specs.Laws.Sized.{Ascii, Plain, AllPlain, Sized}
 
 -- ---- the larger of two numbers

@@ -7,6 +7,7 @@ use mathlib.Core.List.{List, [], _∷_, _++_, map}
 use lib.ListN.{length}
 use Rattle.paper_expressions.specs.Laws.Search.{at-one}
 use Rattle.paper_expressions.specs.View.{At, at-first, at-later}
+pub use Rattle.paper_guideline.specs.Parts.{each}
 
 pub no-element : {A : Type 0} {i : ℕ} {x : A} → ¬ At [] i x
 no-element h = elim h [ ]
@@ -79,11 +80,7 @@ at-indexed f [] h = absurd (no-element h)
 at-indexed f (x ∷ l) at-first = (x, at-first, refl)
 at-indexed f (z ∷ l) (at-later h) = let k = at-indexed (λ i. f (suc i)) l h in (k .0, at-later (k .1), k .2)
 
--- ---- gathered: what each element gives, as Parts gathers it
-
-abbrev pub each : {A B : Type 0} → (A → List B) → List A → List B
-each f [] = []
-each f (a ∷ l) = f a ++ each f l
+-- ---- gathered: what each element gives
 
 -- where the elements of f of the i-th begin
 abbrev pub before : {A B : Type 0} → (A → List B) → ℕ → List A → ℕ

@@ -1,0 +1,5 @@
+pub mod Lexer
+pub mod Reader
+pub mod Loading
+pub mod Texts
+pub mod FromTexts

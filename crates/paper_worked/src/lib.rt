@@ -1,0 +1,1 @@
+// Worked guidelines, from their texts to the rows after every cycle: see specs/.
