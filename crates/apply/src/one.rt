@@ -4,6 +4,7 @@ ghost use Rattle.paper_expressions.specs.Operators as paper;
 ghost use Rattle.operators.specs.Means.{Means};
 ghost use Rattle.apply.specs.Applies.{Applies};
 use crate::states;
+use crate::states::State;
 use operators::Extreme;
 use parts::Code;
 use values::Scalar;
@@ -35,10 +36,10 @@ pub fn one(bytes: &[u8], tasks: &[u32], states: &[u32], kind: usize, a: Value) -
         Code::SUM => sequences::sum(a),
         Code::MAX => max(bytes, a),
         Code::MIN => min(bytes, a),
-        Code::IS_DORMANT => states::is_in(bytes, tasks, states, 1, a),
-        Code::IS_IN_PROGRESS => states::is_in(bytes, tasks, states, 2, a),
-        Code::IS_DISCARDED => states::is_in(bytes, tasks, states, 3, a),
-        Code::IS_COMPLETED => states::is_in(bytes, tasks, states, 4, a),
+        Code::IS_DORMANT => states::is_in(bytes, tasks, states, State::DORMANT, a),
+        Code::IS_IN_PROGRESS => states::is_in(bytes, tasks, states, State::IN_PROGRESS, a),
+        Code::IS_DISCARDED => states::is_in(bytes, tasks, states, State::DISCARDED, a),
+        Code::IS_COMPLETED => states::is_in(bytes, tasks, states, State::COMPLETED, a),
         _ => values::single(Scalar::Unknown),
     }
 }

@@ -4,15 +4,29 @@ ghost use Rattle.paper_expressions.specs.Laws.Search.{alikeb};
 ghost use Rattle.values.specs.Meaning.{bytesOf, handleOf};
 ghost use Rattle.apply.specs.Tasks.{FoundTask, StateOf};
 ghost use Rattle.apply.specs.IsIn.{Asked};
+use parts::HANDLE;
 use values::Handle;
 use values::Scalar;
 use values::Value;
+
+// The numbers of the states: docs/TABLES.md.
+pub struct State;
+
+impl State {
+    pub const DORMANT: usize = 1;
+
+    pub const IN_PROGRESS: usize = 2;
+
+    pub const DISCARDED: usize = 3;
+
+    pub const COMPLETED: usize = 4;
+}
 
 // Whether the name `x` is alike to the text.
 fn named(bytes: &[u8], x: usize, h: Handle) -> bool
     ensures { λ r. ⌜ r ≡ alikeb (bytesOf (now (bytes .entry)) (handleOf x)) (bytesOf (now (bytes .entry)) h) ⌝ }
 {
-    parts::names::alike(bytes, x / 64, x % 64, h.at, h.len)
+    parts::names::alike(bytes, x / HANDLE, x % HANDLE, h.at, h.len)
 }
 
 // 9.6, where names are apart: the task with that name, or a number that no task has. Task 0 is the root, which has no name.

@@ -29,12 +29,15 @@ pub record Rest (s s′ b b′ : List ℕ) : Type 0 where
   pub room : length b′ ≡ length b
   pub cells : (i : ℕ) → i < 776 → getD s′ i 0 ≡ getD s i 0
   pub bytes : (i : ℕ) → i < 16384 → getD b′ i 0 ≡ getD b i 0
+  -- behind the items' cells and bytes
+  pub behind : (i : ℕ) → 2952 ≤ i → getD s′ i 0 ≡ getD s i 0
+  pub past : (i : ℕ) → 65536 ≤ i → getD b′ i 0 ≡ getD b i 0
 
 old-refl : (d : ℕ) (s b : List ℕ) → Old d s s b b
 old-refl d s b = record { tags = λ j l. refl; numbers = λ j l. refl; bytes = λ i l. refl }
 
 rest-refl : (s b : List ℕ) → Rest s s b b
-rest-refl s b = record { size = refl; room = refl; cells = λ i l. refl; bytes = λ i l. refl }
+rest-refl s b = record { size = refl; room = refl; cells = λ i l. refl; bytes = λ i l. refl; behind = λ i l. refl; past = λ i l. refl }
 
 -- ---- one item
 
@@ -53,7 +56,14 @@ pub stored-one : (news texts : List ℕ) (d : ℕ) (s u s′ b b′ : List ℕ) 
     → StoredOne news texts d s s′ b b′
 stored-one news texts d s u s′ b b′ l e f x y z =
     record {
-      rest = record { size = y .size ∙ x .size; room = z .size; cells = λ i h. y .other i (inl (omega arith)) ∙ x .other i (inl (omega arith)); bytes = λ i h. z .other i (inl (omega arith)) };
+      rest = record {
+        size = y .size ∙ x .size;
+        room = z .size;
+        cells = λ i h. y .other i (inl (omega arith)) ∙ x .other i (inl (omega arith));
+        bytes = λ i h. z .other i (inl (omega arith));
+        behind = λ i h. y .other i (inr (omega arith)) ∙ x .other i (inr (omega arith));
+        past = λ i h. z .other i (inr (omega arith));
+      };
       none = λ g. absurd (f (e ∙ g));
       given = λ g n m. record {
         tags = λ j h. y .other (776 + 17 * d + j) (inl (omega arith)) ∙ x .same j h (omega arith);
@@ -88,7 +98,15 @@ pub stored-start : (news texts s b : List ℕ) → Stored news texts 0 s s b b
 stored-start news texts s b = record { rest = rest-refl s b; given = λ d l. absurd (not-suc-le-zero l); none = λ d l h. old-refl d s b }
 
 rest-then : {s u s′ b c b′ : List ℕ} → Rest s u b c → Rest u s′ c b′ → Rest s s′ b b′
-rest-then x y = record { size = y .size ∙ x .size; room = y .room ∙ x .room; cells = λ i l. y .cells i l ∙ x .cells i l; bytes = λ i l. y .bytes i l ∙ x .bytes i l }
+rest-then x y =
+    record {
+      size = y .size ∙ x .size;
+      room = y .room ∙ x .room;
+      cells = λ i l. y .cells i l ∙ x .cells i l;
+      bytes = λ i l. y .bytes i l ∙ x .bytes i l;
+      behind = λ i l. y .behind i l ∙ x .behind i l;
+      past = λ i l. y .past i l ∙ x .past i l;
+    }
 
 old-then : {d : ℕ} {s u s′ b c b′ : List ℕ} → Old d s u b c → Old d u s′ c b′ → Old d s s′ b b′
 old-then x y = record { tags = λ i l. y .tags i l ∙ x .tags i l; numbers = λ i l. y .numbers i l ∙ x .numbers i l; bytes = λ i l. y .bytes i l ∙ x .bytes i l }

@@ -21,3 +21,13 @@ pub fn clear_bytes(cells: &mut [u8])
         i += 1;
     }
 }
+
+pub fn clear_places(cells: &mut [usize])
+    ensures { λ _. ⌜ now (cells .exit) ≡ replicate (length (now (cells .entry))) 0 ⌝ }
+{
+    let mut i = 0usize;
+    while i < cells.len() {
+        cells[i] = 0;
+        i += 1;
+    }
+}

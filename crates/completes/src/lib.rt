@@ -1,5 +1,11 @@
 // 8.6.4: which tasks are completed.
+use limits::Tasks;
+use state::Class;
+use state::Plan;
 use state::Property;
+use state::Requested;
+use state::State;
+use state::Tag;
 ghost use mathlib.Core.Path.{_≡_};
 ghost use mathlib.Core.Bool.{Bool, _&&_, _||_, not};
 ghost use Prim.Native.Nat.{ℕ, _+_, _<_};
@@ -12,9 +18,9 @@ ghost use Rattle.completes.specs.Twins.{stillF, idleF, settledF, answere
 fn still(s: &[u32], t: usize) -> bool
     ensures { λ r. ⌜ r ≡ stillF (now (s .entry)) t ⌝ }
 {
-    let done = state::row_is(s, Property::STATE, t, 5, 4);
-    let dropped = state::row_is(s, Property::STATE, t, 5, 3);
-    let runs = state::row_is(s, Property::STATE, t, 5, 2);
+    let done = state::row_is(s, Property::STATE, t, Tag::STATE, State::COMPLETED);
+    let dropped = state::row_is(s, Property::STATE, t, Tag::STATE, State::DISCARDED);
+    let runs = state::row_is(s, Property::STATE, t, Tag::STATE, State::IN_PROGRESS);
     let timed = waits::timed(s, t);
     waits::both(waits::either(done, dropped), waits::both(!runs, !timed))
 }
@@ -52,11 +58,11 @@ pub fn unsettled(
 ) -> [bool; 32]
     ensures { λ r. ⌜ Below (now (f .entry)) (λ C. not (settledF (now (s .entry)) starts discards initialises C)) 32 r ⌝ }
 {
-    let mut m = [false; 32];
+    let mut m = [false; Tasks::LIMIT];
     let mut t: usize = 0;
-    while t < 32 {
+    while t < Tasks::LIMIT {
         let v = settled(s, starts, discards, initialises, t);
-        let x = state::cell(f, 8, t);
+        let x = state::cell(f, Plan::PARENT, t);
         let p = marks::parent(x);
         let u = marks::raised(m, p, x, !v);
         m[p] = u;
@@ -69,9 +75,12 @@ pub fn unsettled(
 fn answered(s: &[u32], f: &[u32], k: usize) -> bool
     ensures { λ r. ⌜ r ≡ answeredF (now (s .entry)) (now (f .entry)) k ⌝ }
 {
-    let free = state::cell(f, 392, k) != 1;
-    let d = state::cell(f, 264, k);
-    let told = waits::both(state::cell(s, 648, d) == 2, state::cell(s, 712, d) == 0);
+    let free = state::cell(f, Plan::MANDATORY, k) != 1;
+    let d = state::cell(f, Plan::SOURCE_ITEM, k);
+    let told = waits::both(
+        state::cell(s, Requested::TAGS, d) == Tag::TRUTH,
+        state::cell(s, Requested::NUMBERS, d) == 0,
+    );
     waits::either(free, told)
 }
 
@@ -95,8 +104,11 @@ fn all_answered(s: &[u32], f: &[u32], first: u32, count: u32) -> bool
 fn confirmed(s: &[u32], f: &[u32], t: usize) -> bool
     ensures { λ r. ⌜ r ≡ confirmedCase (now (s .entry)) (now (f .entry)) t ⌝ }
 {
-    let free = state::cell(f, 136, t) != 1;
-    waits::either(free, state::row_is(s, Property::CONFIRMED, t, 2, 1))
+    let free = state::cell(f, Plan::CONFIRMATORY, t) != 1;
+    waits::either(
+        free,
+        state::row_is(s, Property::CONFIRMED, t, Tag::TRUTH, 1),
+    )
 }
 
 // 8.6.4, where `pending` marks the plans of which a component is not settled.
@@ -104,9 +116,14 @@ pub fn complete_one(s: &[u32], f: &[u32], pending: [bool; 32], t: usize) -> bool
     requires { ⌜ t < 32 ⌝ }
     ensures { λ r. ⌜ r ≡ completeF (now (s .entry)) (now (f .entry)) pending t ⌝ }
 {
-    let runs = state::row_is(s, Property::STATE, t, 5, 2);
-    let sources = all_answered(s, f, blocks::cell(f, 200 + t), blocks::cell(f, 232 + t));
-    let no_plan = state::cell(f, 168, t) != 1;
+    let runs = state::row_is(s, Property::STATE, t, Tag::STATE, State::IN_PROGRESS);
+    let sources = all_answered(
+        s,
+        f,
+        blocks::cell(f, Plan::FIRST_SOURCE + t),
+        blocks::cell(f, Plan::SOURCES + t),
+    );
+    let no_plan = state::cell(f, Plan::CLASS, t) != Class::PLAN;
     let over = waits::either(no_plan, !waits::mark(pending, t));
     waits::both(
         runs,

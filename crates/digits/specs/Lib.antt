@@ -1,3 +1,4 @@
 pub mod Appends
+pub mod AppendsLaws
 pub mod Digits
 pub mod Signed

@@ -1,5 +1,9 @@
 // 8.6.8 and 8.6.3: which plans terminate, and which tasks are discarded.
+use limits::Tasks;
+use state::Plan;
 use state::Property;
+use state::State;
+use state::Tag;
 use waits::Before;
 ghost use mathlib.Core.Path.{_≡_};
 ghost use mathlib.Core.Bool.{Bool, _&&_, _||_, not};
@@ -13,19 +17,19 @@ ghost use Rattle.discards.specs.Twins.{endsF, discardableF, unwantedCase
 fn ends(s: &[u32], f: &[u32], t: usize) -> bool
     ensures { λ r. ⌜ r ≡ endsF (now (s .entry)) (now (f .entry)) t ⌝ }
 {
-    let done = state::row_is(s, Property::STATE, t, 5, 4);
-    waits::both(done, state::cell(f, 72, t) == 1)
+    let done = state::row_is(s, Property::STATE, t, Tag::STATE, State::COMPLETED);
+    waits::both(done, state::cell(f, Plan::TERMINAL, t) == 1)
 }
 
 // 8.6.8, 2: the plans that a terminal task ends.
 pub fn ended_plans(s: &[u32], f: &[u32]) -> [bool; 32]
     ensures { λ r. ⌜ Below (now (f .entry)) (endsF (now (s .entry)) (now (f .entry))) 32 r ⌝ }
 {
-    let mut m = [false; 32];
+    let mut m = [false; Tasks::LIMIT];
     let mut t: usize = 0;
-    while t < 32 {
+    while t < Tasks::LIMIT {
         let v = ends(s, f, t);
-        let x = state::cell(f, 8, t);
+        let x = state::cell(f, Plan::PARENT, t);
         let p = marks::parent(x);
         let u = marks::raised(m, p, x, v);
         m[p] = u;
@@ -38,9 +42,9 @@ pub fn ended_plans(s: &[u32], f: &[u32]) -> [bool; 32]
 fn discardable(s: &[u32], t: usize) -> bool
     ensures { λ r. ⌜ r ≡ discardableF (now (s .entry)) t ⌝ }
 {
-    let runs = state::row_is(s, Property::STATE, t, 5, 2);
-    let waiting = state::row_is(s, Property::STATE, t, 5, 1);
-    let done = state::row_is(s, Property::STATE, t, 5, 4);
+    let runs = state::row_is(s, Property::STATE, t, Tag::STATE, State::IN_PROGRESS);
+    let waiting = state::row_is(s, Property::STATE, t, Tag::STATE, State::DORMANT);
+    let done = state::row_is(s, Property::STATE, t, Tag::STATE, State::COMPLETED);
     waits::either(
         runs,
         waits::either(waiting, waits::both(done, waits::timed(s, t))),
@@ -59,7 +63,7 @@ fn own(s: &[u32], f: &[u32], b: Before, pre: bool, wait: bool, t: usize) -> bool
     ensures { λ r. ⌜ r ≡ ownCase (now (s .entry)) (now (f .entry)) (b .any) (b .over) (b .discarded) pre wait t ⌝ }
 {
     let allowed = conditions::parent_runs(s, f, t);
-    let dormant = state::row_is(s, Property::STATE, t, 5, 1);
+    let dormant = state::row_is(s, Property::STATE, t, Tag::STATE, State::DORMANT);
     let scheduled = conditions::schedule(b, wait);
     waits::both(
         allowed,
@@ -74,7 +78,7 @@ fn under(s: &[u32], ended: [bool; 32], m: [bool; 32], x: usize, t: usize) -> boo
     if x == 0 {
         return false;
     }
-    let runs = state::row_is(s, Property::STATE, x - 1, 5, 2);
+    let runs = state::row_is(s, Property::STATE, x - 1, Tag::STATE, State::IN_PROGRESS);
     let over = waits::either(waits::mark(m, x - 1), waits::mark(ended, x - 1));
     waits::both(runs, waits::both(discardable(s, t), over))
 }
@@ -94,6 +98,6 @@ pub fn discard_one(
 {
     let b = waits::antecedents(s, row);
     let mine = own(s, f, b, pre, wait, t);
-    let x = state::cell(f, 8, t);
+    let x = state::cell(f, Plan::PARENT, t);
     waits::either(mine, under(s, ended, m, x, t))
 }

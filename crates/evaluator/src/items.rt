@@ -1,6 +1,5 @@
 // The values of the data items, from their columns: 17 cells an item, a tag and a number each.
 // The tag of the first cell is the item's shape: 0 for one value, in the second cell, or one more than the length of a list, which follows.
-// Of the others it is 1 for a truth value, 2 integer, 3 real, 4 text; any other is unknown.
 ghost use mathlib.Core.Path.{_≡_};
 ghost use Prim.Native.Nat.{_≤_};
 ghost use Rattle.paper_expressions.specs.Limits.{list-limit};
@@ -12,7 +11,20 @@ use values::Scalar;
 use values::Value;
 
 // The cells of an item: its shape, and one for each element that a list can have.
-const CELLS: usize = 17;
+const CELLS: usize = List::LIST_LIMIT + 1;
+
+// What a cell that is no shape holds; with any other tag it is unknown.
+struct Tag;
+
+impl Tag {
+    const TRUTH: usize = 1;
+
+    const INTEGER: usize = 2;
+
+    const REAL: usize = 3;
+
+    const TEXT: usize = 4;
+}
 
 // No item from here on is read.
 const ITEMS: usize = 65_536;
@@ -22,14 +34,14 @@ pub fn scalar(tag: usize, x: u32) -> Scalar
     ensures { λ r. ⌜ r ≡ scalarAt tag x ⌝ }
 {
     match tag {
-        1 => Scalar::Truth(x == 1),
-        2 => values::integer(Wide {
+        Tag::TRUTH => Scalar::Truth(x == 1),
+        Tag::INTEGER => values::integer(Wide {
             z: parts::literal(x),
         }),
-        3 => values::real(Wide {
+        Tag::REAL => values::real(Wide {
             z: parts::literal(x),
         }),
-        4 => Scalar::Text(values::handle_of(x as usize)),
+        Tag::TEXT => Scalar::Text(values::handle_of(x as usize)),
         _ => Scalar::Unknown,
     }
 }

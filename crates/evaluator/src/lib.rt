@@ -5,6 +5,7 @@ mod items;
 mod leaves;
 mod operands;
 
+pub use items::value;
 use operands::Operands;
 use parts::Code;
 use values::Scalar;

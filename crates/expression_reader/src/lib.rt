@@ -8,15 +8,20 @@ use expression_steps::kind_at;
 use expression_steps::larger;
 use expression_steps::operators;
 use expression_steps::operators::Operand;
+use expression_steps::operators::WAITING;
 use expression_steps::refused;
 use leaves::Word;
 use limits::Brackets;
+use parts::Code;
+use terminals::Terminal;
 ghost use mathlib.Core.Path.{_≡_};
 ghost use Prim.Native.Nat.{_≤_};
 ghost use Rattle.leaves.specs.Source.{source};
 ghost use Rattle.expression_steps.specs.Levels.{where-of};
 ghost use Rattle.expression_steps.specs.Made.{ReadsOperand, ReadsExpression, ReadsList};
 ghost use Rattle.expression_reader.specs.Reads.{Reads};
+
+const LIST: u8 = Code::LIST as u8;
 
 // What holds tightest: a single token, or what stands in brackets.
 fn primary(
@@ -33,7 +38,7 @@ fn primary(
     ensures { λ r. ⌜ ReadsOperand 8 (source (now (text .entry)) (now (kinds .entry)) (now (places .entry)) (now (lengths .entry))) (now (cells .entry)) (now (cells .exit)) p u d r ⌝ }
 {
     let k = kind_at(kinds, p);
-    if k == 76 {
+    if k == Terminal::LEFT_PARENTHESIS {
         if d == 0 {
             return refused();
         }
@@ -42,24 +47,49 @@ fn primary(
             return refused();
         }
         let n = e.next;
-        if kind_at(kinds, n) == 77 {
+        if kind_at(kinds, n) == Terminal::RIGHT_PARENTHESIS {
             return single::rounded(kinds, n, e);
         }
         return refused();
     }
-    if k == 78 {
+    if k == Terminal::LEFT_BRACKET {
         if d == 0 {
             return refused();
         }
-        let h = Word { kind: 5, load: 0 };
-        return list(text, kinds, places, lengths, cells, p + 1, u, d - 1, 79, h);
+        let h = Word {
+            kind: LIST,
+            load: 0,
+        };
+        return list(
+            text,
+            kinds,
+            places,
+            lengths,
+            cells,
+            p + 1,
+            u,
+            d - 1,
+            Terminal::RIGHT_BRACKET,
+            h,
+        );
     }
     if single::calls(kinds, p) {
         if d == 0 {
             return refused();
         }
         let h = single::head_at(text, places, lengths, p);
-        return list(text, kinds, places, lengths, cells, p + 2, u, d - 1, 77, h);
+        return list(
+            text,
+            kinds,
+            places,
+            lengths,
+            cells,
+            p + 2,
+            u,
+            d - 1,
+            Terminal::RIGHT_PARENTHESIS,
+            h,
+        );
     }
     single::single(text, kinds, places, lengths, cells, p, u)
 }
@@ -134,7 +164,7 @@ fn list(
         if k == close {
             return single::closed(kinds, cells, u, m, n, close, h);
         }
-        if k != 75 {
+        if k != Terminal::COMMA {
             return refused();
         }
         q = j + 1;
@@ -156,9 +186,9 @@ fn expression(
     requires { ⌜ u ≤ p ⌝ }
     ensures { λ r. ⌜ ReadsExpression (where-of assigned) (source (now (text .entry)) (now (kinds .entry)) (now (places .entry)) (now (lengths .entry))) (now (cells .entry)) (now (cells .exit)) p u d r ⌝ }
 {
-    let mut ks = [0u8; 8];
-    let mut fs = [0usize; 8];
-    let mut ds = [0usize; 8];
+    let mut ks = [0u8; WAITING];
+    let mut fs = [0usize; WAITING];
+    let mut ds = [0usize; WAITING];
     let mut n = 0;
     let mut q = p;
     let mut w = u;
@@ -188,7 +218,7 @@ fn expression(
             };
         }
         let m = r.n;
-        if 7 < m {
+        if WAITING <= m {
             return refused();
         }
         ks[m] = kind_at(kinds, j);

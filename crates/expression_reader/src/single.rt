@@ -6,6 +6,7 @@ use expression_steps::larger;
 use expression_steps::put;
 use expression_steps::refused;
 use leaves::Word;
+use terminals::Terminal;
 ghost use mathlib.Core.Path.{_≡_};
 ghost use mathlib.Core.Bool.{true, false};
 ghost use lib.ListN.{length};
@@ -52,10 +53,10 @@ pub fn single(
     ensures { λ r. ⌜ ReadsSingle (source (now (text .entry)) (now (kinds .entry)) (now (places .entry)) (now (lengths .entry))) (now (cells .entry)) (now (cells .exit)) p u r ⌝ }
 {
     let k = kind_at(kinds, p);
-    if k < 95 {
+    if k < Terminal::OTHER_ATOM {
         return refused();
     }
-    if 100 < k {
+    if Terminal::STRING < k {
         return refused();
     }
     let w = leaf_at(text, kinds, places, lengths, p);
@@ -74,13 +75,13 @@ pub fn calls(kinds: &[u8], p: usize) -> bool
     ensures { λ r. ⌜ Calls (now (kinds .entry)) p r ⌝ }
 {
     let k = kind_at(kinds, p);
-    if k < 95 {
+    if k < Terminal::OTHER_ATOM {
         return false;
     }
-    if 97 < k {
+    if Terminal::DATA_TYPE < k {
         return false;
     }
-    if kind_at(kinds, p + 1) != 76 {
+    if kind_at(kinds, p + 1) != Terminal::LEFT_PARENTHESIS {
         return false;
     }
     true
@@ -117,7 +118,7 @@ pub fn also(m: Built, e: Built) -> Built
 fn elements(close: u8, n: usize, longest: usize) -> usize
     ensures { λ r. ⌜ (close ≡ 79 → r ≡ largerOf n longest) × (¬ (close ≡ 79) → r ≡ longest) ⌝ }
 {
-    if close == 79 {
+    if close == Terminal::RIGHT_BRACKET {
         return larger(n, longest);
     }
     longest

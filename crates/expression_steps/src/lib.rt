@@ -3,6 +3,8 @@
 pub mod operators;
 
 use limits::Expressions;
+use parts::Code;
+use terminals::Terminal;
 ghost use mathlib.Core.Path.{_≡_};
 ghost use mathlib.Core.Bool.{true, false};
 ghost use Prim.Native.Nat.{_+_, _≤_, _<_};
@@ -34,14 +36,17 @@ pub fn refused() -> Built
     }
 }
 
-// The terminal of a token; 255 past the last.
+// What is no terminal.
+const NONE: u8 = 255;
+
+// The terminal of a token; none past the last.
 pub fn kind_at(kinds: &[u8], p: usize) -> u8
     ensures { λ r. ⌜ r ≡ kindAt (now (kinds .entry)) p ⌝ }
 {
     if p < kinds.len() {
         return kinds[p];
     }
-    255
+    NONE
 }
 
 pub fn larger(a: usize, b: usize) -> usize
@@ -96,7 +101,7 @@ pub fn minuses(kinds: &[u8], p: usize) -> usize
     let mut q = p;
     loop {
         let k = kind_at(kinds, q);
-        if k != 92 {
+        if k != Terminal::MINUS {
             return q;
         }
         q += 1;
@@ -110,7 +115,7 @@ pub fn negate(cells: &mut [u32], u: usize, v: usize, m: usize)
 {
     let mut i = 0;
     while i < m {
-        put(cells, v + i, 80, 1, u, 0);
+        put(cells, v + i, Code::NEGATE as u8, 1, u, 0);
         i += 1;
     }
 }

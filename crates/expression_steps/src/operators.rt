@@ -3,10 +3,15 @@ use super::deeper;
 use super::kind_at;
 use super::larger;
 use super::put;
+use parts::Code;
+use terminals::Terminal;
 ghost use mathlib.Core.Path.{_≡_};
 ghost use Prim.Native.Nat.{_+_, _≤_, _<_};
 ghost use Rattle.expression_steps.specs.Levels.{levelOf, levelIn, codeOf, kindAt, where-of};
 ghost use Rattle.expression_steps.specs.Made.{Reduces};
+
+// How many operators wait at most: one of each level, and room.
+pub const WAITING: usize = 8;
 
 // An operand, and how many operators wait before it.
 pub struct Operand {
@@ -23,25 +28,25 @@ pub fn level(k: u8) -> u8
     ensures { λ r. ⌜ r ≡ levelOf k ⌝ }
 {
     match k {
-        45 => 1,
-        46 => 1,
-        3 => 2,
-        4 => 2,
-        32 => 3,
-        33 => 3,
-        43 => 3,
-        81 => 3,
-        84 => 3,
-        85 => 3,
-        86 => 3,
-        87 => 3,
-        88 => 3,
-        89 => 3,
-        90 => 3,
-        91 => 5,
-        92 => 5,
-        93 => 6,
-        94 => 6,
+        Terminal::OR => 1,
+        Terminal::OR_UPPER => 1,
+        Terminal::AND => 2,
+        Terminal::AND_UPPER => 2,
+        Terminal::INCLUDE => 3,
+        Terminal::INCLUDES => 3,
+        Terminal::ONEOF => 3,
+        Terminal::EQUALS => 3,
+        Terminal::LESS => 3,
+        Terminal::LESS_EQUAL => 3,
+        Terminal::EQUAL_LESS => 3,
+        Terminal::GREATER => 3,
+        Terminal::GREATER_EQUAL => 3,
+        Terminal::EQUAL_GREATER => 3,
+        Terminal::NOT_EQUAL => 3,
+        Terminal::PLUS => 5,
+        Terminal::MINUS => 5,
+        Terminal::TIMES => 6,
+        Terminal::DIVIDE => 6,
         _ => 0,
     }
 }
@@ -51,25 +56,25 @@ pub fn number(k: u8) -> u8
     ensures { λ r. ⌜ r ≡ codeOf k ⌝ }
 {
     match k {
-        45 => 41,
-        46 => 41,
-        3 => 40,
-        4 => 40,
-        84 => 31,
-        85 => 33,
-        86 => 33,
-        87 => 30,
-        88 => 32,
-        89 => 32,
-        81 => 34,
-        90 => 35,
-        32 => 50,
-        33 => 50,
-        43 => 60,
-        91 => 10,
-        92 => 11,
-        93 => 12,
-        _ => 20,
+        Terminal::OR => Code::OR as u8,
+        Terminal::OR_UPPER => Code::OR as u8,
+        Terminal::AND => Code::AND as u8,
+        Terminal::AND_UPPER => Code::AND as u8,
+        Terminal::LESS => Code::LESS as u8,
+        Terminal::LESS_EQUAL => Code::LESS_OR_EQUAL as u8,
+        Terminal::EQUAL_LESS => Code::LESS_OR_EQUAL as u8,
+        Terminal::GREATER => Code::GREATER as u8,
+        Terminal::GREATER_EQUAL => Code::GREATER_OR_EQUAL as u8,
+        Terminal::EQUAL_GREATER => Code::GREATER_OR_EQUAL as u8,
+        Terminal::EQUALS => Code::EQUAL as u8,
+        Terminal::NOT_EQUAL => Code::NOT_EQUAL as u8,
+        Terminal::INCLUDE => Code::INCLUDES as u8,
+        Terminal::INCLUDES => Code::INCLUDES as u8,
+        Terminal::ONEOF => Code::ONEOF as u8,
+        Terminal::PLUS => Code::PLUS as u8,
+        Terminal::MINUS => Code::MINUS as u8,
+        Terminal::TIMES => Code::TIMES as u8,
+        _ => Code::DIVIDE as u8,
     }
 }
 
@@ -81,7 +86,7 @@ pub fn level_at(kinds: &[u8], p: usize, assigned: bool) -> u8
     if !assigned {
         return level(k);
     }
-    if k == 3 {
+    if k == Terminal::AND {
         return 0;
     }
     level(k)
@@ -91,9 +96,9 @@ pub fn level_at(kinds: &[u8], p: usize, assigned: bool) -> u8
 // Of each that waits: its terminal, and the first row and the depth of its left operand. No depth is more than `most`.
 pub fn reduce(
     cells: &mut [u32],
-    ks: [u8; 8],
-    fs: [usize; 8],
-    ds: [usize; 8],
+    ks: [u8; WAITING],
+    fs: [usize; WAITING],
+    ds: [usize; WAITING],
     o: Operand,
     l: u8,
     most: usize,

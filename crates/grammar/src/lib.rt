@@ -12,8 +12,23 @@ ghost use Rattle.grammar.specs.Tables.{table, symOf, alternatives, byteO
 ghost use Rattle.grammar.specs.Machine.{passed, past, Stepped, Ends};
 ghost use Rattle.grammar.specs.Reply.{form-of, Verdict};
 use limits::TokenList;
+use tables::Layout;
 
 mod tables;
+
+// The cells of the stack: a token leaves at most eight symbols more there.
+const STACK: usize = 8 * TokenList::LIMIT;
+
+const BOTTOM: usize = STACK - 1;
+
+// What is below this on the stack is a terminal; from here on stand the symbols of the deterministic form.
+const SYMBOL: u8 = 128;
+
+const FIRST: usize = SYMBOL as usize;
+
+const PROCESS: u8 = SYMBOL;
+
+const EXPRESSION: u8 = SYMBOL + 40;
 
 // The symbols from which a sentence may come.
 pub enum Start {
@@ -42,16 +57,16 @@ fn wide(b: u8) -> usize
 }
 
 // The byte j of the alternative a.
-fn byte(t: &[u8; 2197], a: usize, j: usize) -> u8
+fn byte(t: &[u8; Layout::BYTES], a: usize, j: usize) -> u8
     requires { ⌜ (a < 210) × (j < 10) ⌝ }
     requires { ⌜ now t ≡ table ⌝ }
     ensures { λ r. ⌜ r ≡ byteOf a j ⌝ }
 {
-    t[97 + a * 10 + j]
+    t[Layout::ALTERNATIVES + a * Layout::WIDTH + j]
 }
 
 // The first of the alternatives from `from` up to `to` that begins with k, counted from 1; 0 where none does.
-fn seek(t: &[u8; 2197], k: u8, from: usize, to: usize) -> usize
+fn seek(t: &[u8; Layout::BYTES], k: u8, from: usize, to: usize) -> usize
     requires { ⌜ (from ≤ to) × (to ≤ 210) ⌝ }
     requires { ⌜ now t ≡ table ⌝ }
     ensures { λ r. ⌜ r ≡ seekIn k from (slice from to alternatives) ⌝ }
@@ -67,11 +82,11 @@ fn seek(t: &[u8; 2197], k: u8, from: usize, to: usize) -> usize
 }
 
 // The alternative of the symbol x that begins with k, counted over all from 1; 0 where there is none.
-fn choice(t: &[u8; 2197], x: usize, k: u8) -> usize
+fn choice(t: &[u8; Layout::BYTES], x: usize, k: u8) -> usize
     requires { ⌜ now t ≡ table ⌝ }
     ensures { λ r. ⌜ r ≡ choiceOf x k ⌝ }
 {
-    if x < 48 {
+    if x < Layout::SYMBOLS {
         let from = wide(t[x]);
         let to = wide(t[x + 1]);
         return seek(t, k, from, to);
@@ -79,22 +94,26 @@ fn choice(t: &[u8; 2197], x: usize, k: u8) -> usize
     0
 }
 
-fn may_be_empty(t: &[u8; 2197], x: usize) -> bool
+fn may_be_empty(t: &[u8; Layout::BYTES], x: usize) -> bool
     requires { ⌜ now t ≡ table ⌝ }
     ensures { λ r. ⌜ r ≡ G .empty x ⌝ }
 {
-    if x < 48 { t[49 + x] == b'1' } else { true }
+    if x < Layout::SYMBOLS {
+        t[Layout::EMPTY + x] == b'1'
+    } else {
+        true
+    }
 }
 
 // Whether c is passed over at k: a symbol that may be empty, of which no alternative begins with k.
-fn passes(t: &[u8; 2197], c: u8, k: u8) -> bool
+fn passes(t: &[u8; Layout::BYTES], c: u8, k: u8) -> bool
     requires { ⌜ now t ≡ table ⌝ }
     ensures { λ r. ⌜ r ≡ passed k (symOf c) ⌝ }
 {
-    if c < 128 {
+    if c < SYMBOL {
         return false;
     }
-    let x = wide(c) - 128;
+    let x = wide(c) - FIRST;
     if choice(t, x, k) == 0 {
         return may_be_empty(t, x);
     }
@@ -102,13 +121,13 @@ fn passes(t: &[u8; 2197], c: u8, k: u8) -> bool
 }
 
 // The top once those are off the stack that are passed over at k.
-fn skip(t: &[u8; 2197], stack: &[u8; 32768], top: usize, k: u8) -> usize
+fn skip(t: &[u8; Layout::BYTES], stack: &[u8; STACK], top: usize, k: u8) -> usize
     requires { ⌜ (length (now stack) ≡ 32768) × (top ≤ 32768) ⌝ }
     requires { ⌜ now t ≡ table ⌝ }
     ensures { λ r. ⌜ ((top ≤ r) × (r ≤ 32768)) × (map symOf (drop r (now (stack .entry))) ≡ past k (map symOf (drop top (now (stack .entry))))) ⌝ }
 {
     let mut at = top;
-    while at < 32768 {
+    while at < STACK {
         if !passes(t, stack[at], k) {
             return at;
         }
@@ -118,18 +137,18 @@ fn skip(t: &[u8; 2197], stack: &[u8; 32768], top: usize, k: u8) -> usize
 }
 
 // Whether all that is still to come may be empty.
-fn all_may_be_empty(t: &[u8; 2197], stack: &[u8; 32768], top: usize) -> bool
+fn all_may_be_empty(t: &[u8; Layout::BYTES], stack: &[u8; STACK], top: usize) -> bool
     requires { ⌜ length (now stack) ≡ 32768 ⌝ }
     requires { ⌜ now t ≡ table ⌝ }
     ensures { λ r. ⌜ r ≡ blank G (map symOf (drop top (now (stack .entry)))) ⌝ }
 {
     let mut at = top;
-    while at < 32768 {
+    while at < STACK {
         let c = stack[at];
-        if c < 128 {
+        if c < SYMBOL {
             return false;
         }
-        if !may_be_empty(t, wide(c) - 128) {
+        if !may_be_empty(t, wide(c) - FIRST) {
             return false;
         }
         at += 1;
@@ -138,7 +157,7 @@ fn all_may_be_empty(t: &[u8; 2197], stack: &[u8; 32768], top: usize) -> bool
 }
 
 // Puts on the stack what follows the first token of the alternative a.
-fn push(t: &[u8; 2197], stack: &mut [u8; 32768], top: usize, a: usize) -> usize
+fn push(t: &[u8; Layout::BYTES], stack: &mut [u8; STACK], top: usize, a: usize) -> usize
     requires { ⌜ (length (now stack) ≡ 32768) × (a < 210) × (8 ≤ top) × (top ≤ 32768) ⌝ }
     requires { ⌜ now t ≡ table ⌝ }
     ensures { λ r. ⌜ (length (now (stack .exit)) ≡ 32768) × (top ≤ r + 8) × (r ≤ top) × (drop r (now (stack .exit)) ≡ sideOf a ++ drop top (now (stack .entry))) ⌝ }
@@ -154,23 +173,23 @@ fn push(t: &[u8; 2197], stack: &mut [u8; 32768], top: usize, a: usize) -> usize
 }
 
 // Takes the token k off what is still to come.
-fn step(t: &[u8; 2197], stack: &mut [u8; 32768], top: usize, k: u8) -> Turn
+fn step(t: &[u8; Layout::BYTES], stack: &mut [u8; STACK], top: usize, k: u8) -> Turn
     requires { ⌜ (length (now stack) ≡ 32768) × (8 ≤ top) × (top ≤ 32768) ⌝ }
     requires { ⌜ now t ≡ table ⌝ }
     ensures { λ r. ⌜ Stepped (drop top (now (stack .entry))) k top (now (stack .exit)) r ⌝ }
 {
     let at = skip(t, stack, top, k);
-    if at == 32768 {
+    if at == STACK {
         return Turn::Stuck;
     }
     let c = stack[at];
-    if c < 128 {
+    if c < SYMBOL {
         if c == k {
             return Turn::On(at + 1);
         }
         return Turn::Stuck;
     }
-    let a = choice(t, wide(c) - 128, k);
+    let a = choice(t, wide(c) - FIRST, k);
     if a == 0 {
         return Turn::Stuck;
     }
@@ -178,12 +197,12 @@ fn step(t: &[u8; 2197], stack: &mut [u8; 32768], top: usize, k: u8) -> Turn
 }
 
 // Takes the tokens one after the other.
-fn walk(t: &[u8; 2197], kinds: &[u8], stack: &mut [u8; 32768]) -> Answer
+fn walk(t: &[u8; Layout::BYTES], kinds: &[u8], stack: &mut [u8; STACK]) -> Answer
     requires { ⌜ (length (now stack) ≡ 32768) × (length (now kinds) ≤ token-limit) ⌝ }
     requires { ⌜ now t ≡ table ⌝ }
     ensures { λ r. ⌜ Ends (map symOf (drop 32767 (now (stack .entry)))) (now (kinds .entry)) r ⌝ }
 {
-    let mut top = 32767;
+    let mut top = BOTTOM;
     let mut i = 0;
     while i < kinds.len() {
         let Turn::On(next) = step(t, stack, top, kinds[i]) else {
@@ -203,8 +222,8 @@ fn code(start: Start) -> u8
     ensures { λ r. ⌜ symOf r ≡ Sym.N (form-of start) ⌝ }
 {
     match start {
-        Start::Process => 128,
-        Start::Expression => 168,
+        Start::Process => PROCESS,
+        Start::Expression => EXPRESSION,
     }
 }
 
@@ -216,7 +235,7 @@ pub fn read(kinds: &[u8], start: Start) -> Answer
         return Answer::Unread;
     }
     let t = tables::table();
-    let mut stack = [0u8; 32768];
-    stack[32767] = code(start);
+    let mut stack = [0u8; STACK];
+    stack[BOTTOM] = code(start);
     walk(&t, kinds, &mut stack)
 }

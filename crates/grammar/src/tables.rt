@@ -79,8 +79,24 @@ const TABLE: [u8; 2197] = *b"\
         '\x07L\xa5K\xa5M\xa9\xaf (\x07L\xa5K\xa5M\xa9\xaf \
     K\x02\xa8\xaf      ";
 
+pub struct Layout;
+
+// Where its parts begin: of each symbol its first alternative, whether each may be empty, and the alternatives.
+impl Layout {
+    pub const SYMBOLS: usize = 48;
+
+    pub const EMPTY: usize = Layout::SYMBOLS + 1;
+
+    pub const ALTERNATIVES: usize = Layout::EMPTY + Layout::SYMBOLS;
+
+    // the bytes of one alternative
+    pub const WIDTH: usize = 10;
+
+    pub const BYTES: usize = 2197;
+}
+
 // All of it, made once for a text and handed on.
-pub fn table() -> [u8; 2197]
+pub fn table() -> [u8; Layout::BYTES]
     ensures { λ r. ⌜ r ≡ defined ⌝ }
 {
     TABLE

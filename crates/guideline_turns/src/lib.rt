@@ -12,12 +12,23 @@ ghost use Rattle.leaves.specs.Source.{source};
 ghost use Rattle.guideline_rows.specs.Flat.{front, behind};
 ghost use Rattle.guideline_turns.specs.Made.{mode-of, onto, PlainSteps, Steps};
 
+// Where a turn begins: before a row, or in a postcondition before or behind an assignment.
+pub struct Mode;
+
+impl Mode {
+    pub const ROW: u8 = 0;
+
+    pub const BEFORE: u8 = 1;
+
+    pub const BEHIND: u8 = 2;
+}
+
 // What a turn passed, and the row that it gives, if any.
 pub struct Passed {
     pub ok: bool,
     // the token behind it
     pub next: usize,
-    // before a row (0), or in a postcondition before (1) or behind (2) an assignment
+    // where the next turn begins
     pub mode: u8,
     pub row: bool,
     // the terminal of the row's word ("=" for an assignment), and the place of an attribute's
@@ -43,7 +54,7 @@ fn stuck() -> Passed
     Passed {
         ok: false,
         next: 0,
-        mode: 0,
+        mode: Mode::ROW,
         row: false,
         kind: 0,
         word: 0,
@@ -94,7 +105,7 @@ fn before(
     ensures { λ r. ⌜ Steps front (source (now (text .entry)) (now (kinds .entry)) (now (places .entry)) (now (lengths .entry))) (now (cells .entry)) (now (cells .exit)) p u r ⌝ }
 {
     if kind_at(kinds, p) == Terminal::LEFT_PARENTHESIS {
-        return on(p + 1, 1);
+        return on(p + 1, Mode::BEFORE);
     }
     lines::assignment(text, kinds, places, lengths, cells, p, u)
 }
@@ -106,12 +117,12 @@ fn after(text: &[u8], kinds: &[u8], places: &[usize], lengths: &[usize], p: usiz
 {
     let k = kind_at(kinds, p);
     if k == Terminal::RIGHT_PARENTHESIS {
-        return on(p + 1, 2);
+        return on(p + 1, Mode::BEHIND);
     }
     if k == Terminal::AND {
-        return on(p + 1, 1);
+        return on(p + 1, Mode::BEFORE);
     }
-    on(p + 1, 0)
+    on(p + 1, Mode::ROW)
 }
 
 // One turn, from the token `p` on. The parts of an expression are written from the part `u` on, as far as there is room.
@@ -131,10 +142,10 @@ pub fn step(
     if TokenList::LIMIT < p {
         return stuck();
     }
-    if mode == 0 {
+    if mode == Mode::ROW {
         return lines::line(text, kinds, places, lengths, cells, p, u);
     }
-    if mode == 1 {
+    if mode == Mode::BEFORE {
         return before(text, kinds, places, lengths, cells, p, u);
     }
     after(text, kinds, places, lengths, p)

@@ -1,4 +1,5 @@
 // What a turn passes: a line that begins with a word, or an assignment.
+use super::Mode;
 use super::Passed;
 use super::on;
 use super::stuck;
@@ -61,7 +62,7 @@ fn task(text: &[u8], kinds: &[u8], places: &[usize], lengths: &[usize], p: usize
     Passed {
         ok: true,
         next: p + 4,
-        mode: 0,
+        mode: Mode::ROW,
         row: true,
         kind: kind_at(kinds, p),
         word: 0,
@@ -84,7 +85,7 @@ fn data_item(text: &[u8], kinds: &[u8], places: &[usize], lengths: &[usize], p: 
     Passed {
         ok: true,
         next: p + 8,
-        mode: 0,
+        mode: Mode::ROW,
         row: true,
         kind: Terminal::DATA,
         word: 0,
@@ -123,7 +124,7 @@ fn expression(
     Passed {
         ok: true,
         next: n + 1,
-        mode: 0,
+        mode: Mode::ROW,
         row: true,
         kind: kind_at(kinds, p),
         word: cell(places, p),
@@ -146,7 +147,7 @@ fn name(text: &[u8], kinds: &[u8], places: &[usize], lengths: &[usize], p: usize
     Passed {
         ok: true,
         next: p + 4,
-        mode: 0,
+        mode: Mode::ROW,
         row: true,
         kind: kind_at(kinds, p),
         word: cell(places, p),
@@ -169,7 +170,7 @@ fn answer(text: &[u8], kinds: &[u8], places: &[usize], lengths: &[usize], p: usi
     Passed {
         ok: true,
         next: p + 4,
-        mode: 0,
+        mode: Mode::ROW,
         row: true,
         kind: kind_at(kinds, p),
         word: cell(places, p),
@@ -192,7 +193,7 @@ fn constraint(text: &[u8], kinds: &[u8], places: &[usize], lengths: &[usize], p:
     Passed {
         ok: true,
         next: p + 7,
-        mode: 0,
+        mode: Mode::ROW,
         row: true,
         kind: Terminal::SCHEDULE_CONSTRAINT,
         word: cell(places, p),
@@ -215,7 +216,7 @@ fn postcondition(text: &[u8], kinds: &[u8], places: &[usize], lengths: &[usize],
     Passed {
         ok: true,
         next: p + 2,
-        mode: 1,
+        mode: Mode::BEFORE,
         row: true,
         kind: Terminal::POSTCONDITION,
         word: cell(places, p),
@@ -250,7 +251,7 @@ pub fn assignment(
     Passed {
         ok: true,
         next: e.next,
-        mode: 2,
+        mode: Mode::BEHIND,
         row: true,
         kind: Terminal::EQUALS,
         word: 0,
@@ -286,6 +287,6 @@ pub fn line(
         b'y' => answer(text, kinds, places, lengths, p),
         b'c' => constraint(text, kinds, places, lengths, p),
         b'p' => postcondition(text, kinds, places, lengths, p),
-        _ => on(p + 3, 0),
+        _ => on(p + 3, Mode::ROW),
     }
 }

@@ -7,7 +7,8 @@ use native.Mathlib.Omega.{arith}
 use native.Mathlib.Decide.{decLt}
 use lib.ListN.{length, getD, List·getD-eq-default}
 use Rattle.parts.specs.Part.{table}
-use Rattle.pool.specs.Written.{Written, spelt-at}
+use Rattle.pool.specs.Written.{Written}
+use Rattle.pool.specs.WrittenLaws.{spelt-at}
 use Rattle.guideline_rows.specs.Rows.{Row}
 use Rattle.guideline_rows.specs.Encoded.{Has, Encoded}
 use Rattle.guideline_walk.specs.declared.Totals.{Totals}

@@ -15,7 +15,8 @@ use Rattle.parts.specs.EncodeLaws.{flat-length, flat-append}
 use Rattle.leaves.specs.Source.{Source}
 use Rattle.expression_steps.specs.Rows.{Beside}
 use Rattle.expression_steps.specs.Levels.{kindOf, stand-length}
-use Rattle.pool.specs.Written.{Written, spelt-kept, written-none, written-more}
+use Rattle.pool.specs.Written.{Written}
+use Rattle.pool.specs.WrittenLaws.{spelt-kept, written-none, written-more}
 use Rattle.pool.specs.Pooled.{Fits}
 use Rattle.guideline_rows.specs.Rows.{Row, flatten, expression-of}
 use Rattle.guideline_rows.specs.Sizes.{size-in, parts-in}

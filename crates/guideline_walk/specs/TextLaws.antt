@@ -23,7 +23,8 @@ use Rattle.leaves.specs.declared.names.Span.{Span}
 use Rattle.leaves.specs.Source.{Source, source}
 use Rattle.leaves.specs.Cells.{length-cells}
 use Rattle.expression_reader.specs.Reads.{bare-size}
-use Rattle.pool.specs.Written.{Written, written-none, written-one, written-more}
+use Rattle.pool.specs.Written.{Written}
+use Rattle.pool.specs.WrittenLaws.{written-none, written-one, written-more}
 use Rattle.pool.specs.Pooled.{nowhere, Fits, Gathers}
 use Rattle.pool.specs.Columns.{Rooms}
 use Rattle.pool.specs.Held.{gathered-in}

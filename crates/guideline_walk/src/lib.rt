@@ -4,6 +4,7 @@ mod adding;
 mod table;
 mod texts;
 
+use guideline_turns::Mode;
 use guideline_turns::Passed;
 use guideline_turns::step;
 ghost use mathlib.Core.Path.{_≡_};
@@ -92,7 +93,7 @@ pub fn walk(
         place: 0,
     };
     let mut p = 0;
-    let mut mode: u8 = 0;
+    let mut mode = Mode::ROW;
     while p < kinds.len() {
         let t = step(text, kinds, places, lengths, cells, p, mode, w.parts);
         if !t.ok {

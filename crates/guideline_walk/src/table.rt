@@ -1,4 +1,5 @@
-// Rows of eight cells.
+// Rows of the row table.
+use guideline_rows::Row;
 use guideline_turns::Passed;
 ghost use mathlib.Core.Path.{_≡_};
 ghost use Rattle.guideline_walk.specs.Made.{low as lowOf, Puts};
@@ -18,16 +19,16 @@ fn low(x: usize) -> u32
 pub fn put(rows: &mut [u32], n: usize, t: Passed, h: u32)
     ensures { λ _. ⌜ Puts (now (rows .entry)) (now (rows .exit)) n t h ⌝ }
 {
-    if rows.len() / 8 <= n {
+    if rows.len() / Row::CELLS <= n {
         return;
     }
-    let i = n * 8;
+    let i = n * Row::CELLS;
     rows[i] = t.kind as u32;
-    rows[i + 1] = low(t.word);
-    rows[i + 2] = h;
-    rows[i + 3] = low(t.place);
-    rows[i + 4] = low(t.first);
-    rows[i + 5] = low(t.start);
-    rows[i + 6] = low(t.end);
-    rows[i + 7] = t.flag as u32;
+    rows[i + Row::WORD] = low(t.word);
+    rows[i + Row::NAME] = h;
+    rows[i + Row::PLACE] = low(t.place);
+    rows[i + Row::FIRST] = low(t.first);
+    rows[i + Row::START] = low(t.start);
+    rows[i + Row::END] = low(t.end);
+    rows[i + Row::FLAG] = t.flag as u32;
 }

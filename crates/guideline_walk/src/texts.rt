@@ -2,6 +2,7 @@
 use guideline_rows::spelt;
 use leaves::names::Span;
 use limits::Guideline;
+use parts::HANDLE;
 use pool::NOWHERE;
 use pool::copy;
 use pool::gather;
@@ -23,7 +24,7 @@ fn name_at(text: &[u8], places: &[usize], lengths: &[usize], j: usize) -> Span
     if Guideline::LIMIT < text.len() {
         return Span { at: 0, n: 0 };
     }
-    if 63 < s.n {
+    if HANDLE <= s.n {
         return Span { at: 0, n: 0 };
     }
     s
@@ -57,7 +58,7 @@ pub fn move_name(
     }
     copy(text, s.at, n, bytes, o);
     Moved {
-        handle: (o * 64 + n) as u32,
+        handle: (o * HANDLE + n) as u32,
         behind: o + n,
     }
 }

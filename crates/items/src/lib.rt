@@ -1,7 +1,10 @@
 // The value of a data item in its one form: 17 tags, 17 numbers, and 48 bytes for the text of each of 16 elements.
 use numbers::Num;
 use numbers::Wide;
+use parts::HANDLE;
+use state::Values;
 use values::Handle;
+use values::List;
 use values::Scalar;
 use values::Value;
 ghost use mathlib.Core.Path.{_≡_};
@@ -12,13 +15,26 @@ ghost use Rattle.parts.specs.Texts.{handle as handleOf, moved as movedOf};
 ghost use Rattle.state.specs.Cell.{bit as bitOf};
 ghost use Rattle.items.specs.Encode.{tagC, SpeltAt, NumberOf, ElementOf, ShapeOf, PutElement, Encodes};
 
+pub struct Form {}
+
+// The form: a shape and the tags of the elements, whether there is a value and their numbers, and the bytes of their texts.
+impl Form {
+    pub const NUMBERS: usize = Values::CELLS;
+
+    pub const ELEMENTS: usize = Form::NUMBERS + 1;
+
+    pub const CELLS: usize = 2 * Values::CELLS;
+
+    pub const BYTES: usize = List::LIST_LIMIT * Handle::TEXT_LIMIT;
+}
+
 // A number of a value as a cell holds it.
 fn moved(n: Num) -> u32
     ensures { λ r. ⌜ (natAbs (n .z) ≤ real-limit → r ≡ movedOf (n .z)) ⌝ }
 {
     let w = numbers::wide_of(n);
     if numbers::real_fits(w) {
-        let up = numbers::sum(w, Wide { z: 2_000_000_000 });
+        let up = numbers::sum(w, Wide { z: Num::REAL_LIMIT });
         let z = up.z;
         return z as u32;
     }
@@ -30,8 +46,8 @@ fn handle(place: usize, n: usize) -> u32
     ensures { λ r. ⌜ (place < 1000000 → n < 64 → r ≡ handleOf place n) ⌝ }
 {
     if place < 1000000 {
-        if n < 64 {
-            return (place * 64 + n) as u32;
+        if n < HANDLE {
+            return (place * HANDLE + n) as u32;
         }
     }
     0
@@ -118,9 +134,20 @@ fn put_element(b: &[u8], x: Scalar, place: usize, cells: &mut [u32], out: &mut [
     ensures { λ r. ⌜ PutElement (now (b .entry)) x place i (now (cells .entry)) (now (cells .exit)) (now (out .entry)) (now (out .exit)) ⌝ }
 {
     let h = spelt(x);
-    blocks::copy_text(b, h.at, h.len, out, 48 * i, 48);
+    blocks::copy_text(
+        b,
+        h.at,
+        h.len,
+        out,
+        Handle::TEXT_LIMIT * i,
+        Handle::TEXT_LIMIT,
+    );
     blocks::put_cell(cells, 1 + i, tag(x));
-    blocks::put_cell(cells, 18 + i, number(x, place + 48 * i, h.len));
+    blocks::put_cell(
+        cells,
+        Form::ELEMENTS + i,
+        number(x, place + Handle::TEXT_LIMIT * i, h.len),
+    );
 }
 
 // Writes a value, whose texts have their places from `place` on among the text bytes.
@@ -129,9 +156,9 @@ pub fn encode(b: &[u8], v: Value, place: usize, cells: &mut [u32], out: &mut [u8
     ensures { λ r. ⌜ Encodes (now (b .entry)) v place (now (cells .exit)) (now (out .exit)) ⌝ }
 {
     blocks::put_cell(cells, 0, shape(v));
-    blocks::put_cell(cells, 17, 1);
+    blocks::put_cell(cells, Form::NUMBERS, 1);
     let mut i: usize = 0;
-    while i < 16 {
+    while i < List::LIST_LIMIT {
         put_element(b, element(v, i), place, cells, out, i);
         i += 1;
     }

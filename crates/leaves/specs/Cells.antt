@@ -1,7 +1,8 @@
--- Laws on the bytes of a part of a text: one by one, and without their quotes. By induction on how many there are.
+-- Laws on the bytes of a part of a text: one by one, without their quotes, and against a table. By induction on how many there are.
 use Prim.Native.Nat.{ℕ, zero, suc, _+_, _*_, _-_, _≤_, _<_}
-use mathlib.Core.Path.{_≡_, refl, ap, _∙_}
-use mathlib.Core.Bool.{Bool, true, false, _||_, _&&_}
+use mathlib.Core.Path.{_≡_, refl, sym, ap, _∙_}
+use mathlib.Core.Bool.{Bool, true, false, _||_}
+use mathlib.Core.Logic.{⊎-elim}
 use mathlib.Core.List.{List, [], _∷_}
 use native.Mathlib.Nat.{not-suc-le-zero}
 use native.Mathlib.Numerals.{add-one}
@@ -9,10 +10,12 @@ use native.Mathlib.Omega.{arith}
 use lib.Dec.{eqb}
 use lib.ListN.{getD, length}
 use lib.Seq.{drop-cons}
-use borrow.Author.Tests.{eq-eqb, ne-eqb}
-use Rattle.paper_expressions.specs.Laws.Search.{sameb}
+use borrow.Author.Tests.{ne-eqb}
+use Rattle.paper_expressions.specs.Laws.Tests.{two}
+use Rattle.paper_expressions.specs.Laws.Search.{sameb, same-reflects, reflects-true, true-reflects}
 use Rattle.paper_tokens.specs.Lexical.{part, inner}
 use Rattle.parts.specs.Texts.{cells}
+use Rattle.words.specs.Entries.{Same}
 use Rattle.leaves.specs.Numbers.{three, above, below, signed}
 
 pub cells-more : (b : List ℕ) (i m : ℕ) → 0 < m → cells b i m ≡ getD b i 0 ∷ cells b (i + 1) (m - 1)
@@ -52,27 +55,20 @@ pub inner-bare : (b : List ℕ) (i m : ℕ) → ¬ (getD b i 0 ≡ 39) → ¬ (g
 inner-bare b i zero f g = refl
 inner-bare b i (suc m) f g = rw (ne-eqb (getD b i 0) 39 f, ne-eqb (getD b i 0) 34 g)
 
--- ---- two texts, byte by byte
+-- ---- two texts
 
-pub same-more : (a b : List ℕ) (x y m : ℕ) → 0 < m → getD a x 0 ≡ getD b y 0 → sameb (cells a x m) (cells b y m) ≡ sameb (cells a (x + 1) (m - 1)) (cells b (y + 1) (m - 1))
-same-more a b x y m h e = rw (cells-more a x m h, cells-more b y m h, eq-eqb (getD a x 0) (getD b y 0) e)
+same-is : {v w : List ℕ} (r : Bool) → Same v w r → r ≡ sameb w v
+same-is {v} {w} true s = sym (reflects-true (same-reflects w v) (sym (s .yes refl)))
+same-is {v} {w} false s = ⊎-elim
+    (λ (e : sameb w v ≡ true). absurd (s .no refl (sym (true-reflects (same-reflects w v) e))))
+    (λ (e : sameb w v ≡ false). sym e)
+    (two (sameb w v))
 
-pub same-stop : (a b : List ℕ) (x y m : ℕ) → 0 < m → ¬ (getD a x 0 ≡ getD b y 0) → sameb (cells a x m) (cells b y m) ≡ false
-same-stop a b x y m h e = rw (cells-more a x m h, cells-more b y m h, ne-eqb (getD a x 0) (getD b y 0) e)
-
-pub same-end : (a b : List ℕ) (x y m : ℕ) → m ≤ 0 → sameb (cells a x m) (cells b y m) ≡ true
-same-end a b x y m h = rw (cells-none a x m h, cells-none b y m h)
-
-both-false : (p q : Bool) → q ≡ false → (p && q) ≡ false
-both-false true q e = e
-both-false false q e = refl
-
-pub same-long : (a b : List ℕ) (n m x y : ℕ) → ¬ (n ≡ m) → sameb (cells a x m) (cells b y n) ≡ false
-same-long a b zero zero x y h = absurd (h refl)
-same-long a b zero (suc m) x y h = refl
-same-long a b (suc n) zero x y h = refl
-same-long a b (suc n) (suc m) x y h =
-    both-false (eqb (getD a x 0) (getD b y 0)) (sameb (cells a (suc x) m) (cells b (suc y) n)) (same-long a b n m (suc x) (suc y) (λ e. h (ap suc e)))
+-- what stands in a text is what stands in a table
+pub same-parts : (t b : List ℕ) (at n p m : ℕ) (r : Bool) → at + n ≤ length t → p + m ≤ length b → Same (part t at n) (part b p m) r
+    → r ≡ sameb (cells b p m) (cells t at n)
+same-parts t b at n p m r h l s =
+    same-is r s ∙ ap (sameb (part b p m)) (part-cells t at n h) ∙ ap (λ (w : List ℕ). sameb w (cells t at n)) (part-cells b p m l)
 
 -- ---- three digits
 

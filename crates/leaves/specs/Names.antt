@@ -8,8 +8,8 @@ use mathlib.Core.List.{List, [], _∷_}
 use native.Mathlib.Nat.{not-suc-le-zero}
 use native.Mathlib.Numerals.{add-one}
 use native.Mathlib.Omega.{arith}
-use lib.Dec.{ltb}
-use lib.ListN.{getD}
+use lib.Dec.{ltb, leb, leb→le}
+use lib.ListN.{length, getD}
 use borrow.Author.Tests.{ltb-true}
 use Rattle.paper_expressions.specs.Laws.Tests.{two, and-l, and-r}
 use Rattle.paper_expressions.specs.Bytes.{bytes}
@@ -19,6 +19,10 @@ use Rattle.paper_expressions.specs.Laws.Search.{sameb}
 use Rattle.parts.specs.Codes.{code}
 use Rattle.parts.specs.Part.{OpLoad}
 use Rattle.parts.specs.Texts.{cells, textAt}
+use Rattle.paper_tokens.specs.Lexical.{part}
+use Rattle.terminals.specs.Every.{at-below}
+use Rattle.words.specs.Entries.{Same}
+use Rattle.leaves.specs.Cells.{same-parts}
 
 unfoldable pub name-bytes : List ℕ
 name-bytes =
@@ -117,3 +121,13 @@ passed w i n m h e = rw (h, add-one m, add-one i, e)
 pub none-left : (w : List ℕ) (i n : ℕ) → n ≤ 0 → code-from w i n ≡ 250
 none-left w i zero h = refl
 none-left w i (suc n) h = absurd (not-suc-le-zero h)
+
+-- each row lies within the names
+pub rows-fit : (i : ℕ) → i < 13 → i * 16 + getD name-lengths i 0 ≤ length name-bytes
+unfolding name-bytes name-lengths
+rows-fit i h = leb→le (i * 16 + getD name-lengths i 0) 208 (at-below (λ k. leb (k * 16 + getD name-lengths k 0) 208) 13 tt i h)
+
+-- what stands in a text is the name of a row
+pub same-name : (t : List ℕ) (at n i : ℕ) (r : Bool) → at + n ≤ length t → i < 13 → Same (part t at n) (part name-bytes (i * 16) (getD name-lengths i 0)) r
+    → r ≡ sameb (name-at i) (cells t at n)
+same-name t at n i r h l s = same-parts t name-bytes at n (i * 16) (getD name-lengths i 0) r h (rows-fit i l) s

@@ -2,6 +2,8 @@
 pub mod names;
 pub mod numbers;
 
+use parts::Code;
+use terminals::Terminal;
 ghost use mathlib.Core.Path.{_≡_};
 ghost use mathlib.Core.Bool.{true, false};
 ghost use Prim.Native.Nat.{_+_, _≤_};
@@ -42,35 +44,47 @@ pub fn leaf(text: &[u8], k: u8, at: usize, n: usize) -> Word
     requires { ⌜ at + n ≤ length (now text) ⌝ }
     ensures { λ r. ⌜ SaysLeaf (now (text .entry)) k at n r ⌝ }
 {
-    if k == 98 {
+    if k == Terminal::INTEGER {
         let x = numbers::integer(text, at, n);
-        return Word { kind: 2, load: x };
+        return Word {
+            kind: Code::INTEGER as u8,
+            load: x,
+        };
     }
-    if k == 99 {
+    if k == Terminal::FLOAT {
         let x = numbers::float(text, at, n);
-        return Word { kind: 3, load: x };
+        return Word {
+            kind: Code::FLOAT as u8,
+            load: x,
+        };
     }
     let s = names::inside(text, at, n);
     let x = names::handle(s.at, s.n);
-    if k == 100 {
-        return Word { kind: 4, load: x };
+    if k == Terminal::STRING {
+        return Word {
+            kind: Code::STRING as u8,
+            load: x,
+        };
     }
-    if 95 <= k {
-        if k <= 97 {
-            return Word { kind: 1, load: x };
+    if Terminal::OTHER_ATOM <= k {
+        if k <= Terminal::DATA_TYPE {
+            return Word {
+                kind: Code::ATOM as u8,
+                load: x,
+            };
         }
     }
     Word { kind: 0, load: 0 }
 }
 
-// The part of a call whose functor name is an atom: an operator of section 11, or 250 with the name as its load.
+// The part of a call whose functor name is an atom: an operator of section 11, or none of its with the name as its load.
 pub fn head(text: &[u8], at: usize, n: usize) -> Word
     requires { ⌜ at + n ≤ length (now text) ⌝ }
     ensures { λ r. ⌜ SaysHead (now (text .entry)) at n r ⌝ }
 {
     let s = names::inside(text, at, n);
     let k = names::functor(text, s.at, s.n);
-    if k == 250 {
+    if k == Code::NO_SUCH as u8 {
         let x = names::handle(s.at, s.n);
         return Word { kind: k, load: x };
     }

@@ -1,20 +1,41 @@
 // The text of an atom or a string without its quotes, its handle, and the operator that a functor name means.
+use limits::Guideline;
+use parts::Code;
+use parts::HANDLE;
 use parts::byte;
+use words::stands;
 ghost use mathlib.Core.Path.{_≡_};
 ghost use Prim.Native.Nat.{_+_, _*_, _-_, _≤_, _<_};
 ghost use lib.ListN.{length, getD};
-ghost use Rattle.paper_expressions.specs.Laws.Search.{sameb};
 ghost use Rattle.paper_tokens.specs.Lexical.{inner};
-ghost use Rattle.parts.specs.Texts.{cells, textAt};
-ghost use Rattle.leaves.specs.Names.{name-bytes, name-lengths, name-codes, name-at, code-from};
+ghost use Rattle.parts.specs.Texts.{cells};
+ghost use Rattle.leaves.specs.Names.{name-bytes, name-lengths, name-codes, code-from};
 
-// The names of section 11's functors, 16 bytes each.
+// How many names of functors section 11 has, and how many bytes of the table each takes.
+const FUNCTORS: usize = 13;
+
+const WIDTH: usize = 16;
+
 const NAMES: [u8; 208] =
     *b"if              -               isknown         not             count           sum             max             min             nth             is_dormant      is_in_progress  is_discarded    is_completed    ";
 
 const LENGTHS: [usize; 13] = [2, 1, 7, 3, 5, 3, 3, 3, 3, 10, 14, 12, 12];
 // The numbers of the parts that they are.
-const CODES: [u8; 13] = [70, 80, 90, 100, 110, 120, 130, 131, 140, 150, 151, 152, 153];
+const CODES: [u8; 13] = [
+    Code::IF as u8,
+    Code::NEGATE as u8,
+    Code::ISKNOWN as u8,
+    Code::NOT as u8,
+    Code::COUNT as u8,
+    Code::SUM as u8,
+    Code::MAX as u8,
+    Code::MIN as u8,
+    Code::NTH as u8,
+    Code::IS_DORMANT as u8,
+    Code::IS_IN_PROGRESS as u8,
+    Code::IS_DISCARDED as u8,
+    Code::IS_COMPLETED as u8,
+];
 
 pub struct Span {
     pub at: usize,
@@ -30,10 +51,10 @@ pub fn inside(text: &[u8], at: usize, n: usize) -> Span
         return Span { at: at, n: 0 };
     }
     let b = byte(text, at);
-    if b == 39 {
+    if b == b'\'' {
         return unquoted(at, n);
     }
-    if b == 34 {
+    if b == b'"' {
         return unquoted(at, n);
     }
     Span { at: at, n: n }
@@ -53,60 +74,51 @@ fn unquoted(at: usize, n: usize) -> Span
     }
 }
 
-// 64 times the place and the length, where both are within the limits.
+// The handle of a text of `n` bytes, where place and length are within the limits.
 pub fn handle(at: usize, n: usize) -> u32
     ensures { λ r. ⌜ (at ≤ 16384 → n < 64 → r ≡ at * 64 + n) ⌝ }
 {
-    if at <= 16384 {
-        if n < 64 {
-            return (at * 64 + n) as u32;
+    if at <= Guideline::LIMIT {
+        if n < HANDLE {
+            return (at * HANDLE + n) as u32;
         }
     }
     0
 }
 
-fn name_byte(i: usize) -> u8
-    ensures { λ r. ⌜ r ≡ getD name-bytes i 0 ⌝ }
+// The tables are made once for a name, and handed on.
+fn names() -> [u8; 208]
+    ensures { λ r. ⌜ r ≡ name-bytes ⌝ }
 {
-    if i < 208 {
-        return NAMES[i];
-    }
-    0
+    NAMES
 }
 
-// Whether a text is the name in row `i`.
-fn is_name(text: &[u8], at: usize, n: usize, i: usize) -> bool
-    requires { ⌜ (at + n ≤ length (now text)) × (i < 13) ⌝ }
-    ensures { λ r. ⌜ r ≡ sameb (name-at i) (cells (now (text .entry)) at n) ⌝ }
+fn lengths() -> [usize; 13]
+    ensures { λ r. ⌜ r ≡ name-lengths ⌝ }
 {
-    if n != LENGTHS[i] {
-        return false;
-    }
-    let mut x = at;
-    let mut y = i * 16;
-    let mut m = n;
-    while 0 < m {
-        if name_byte(y) != byte(text, x) {
-            return false;
-        }
-        x += 1;
-        y += 1;
-        m -= 1;
-    }
-    true
+    LENGTHS
 }
 
-// The number of the operator that a functor name means, or 250.
+fn code(i: usize) -> u8
+    requires { ⌜ i < 13 ⌝ }
+    ensures { λ r. ⌜ r ≡ getD name-codes i 0 ⌝ }
+{
+    CODES[i]
+}
+
+// The number of the operator that a functor name means, or that of a functor that section 11 doesn't have.
 pub fn functor(text: &[u8], at: usize, n: usize) -> u8
     requires { ⌜ at + n ≤ length (now text) ⌝ }
     ensures { λ r. ⌜ r ≡ code-from (cells (now (text .entry)) at n) 0 13 ⌝ }
 {
+    let names = names();
+    let lengths = lengths();
     let mut i = 0;
-    while i < 13 {
-        if is_name(text, at, n, i) {
-            return CODES[i];
+    while i < FUNCTORS {
+        if stands(text, at, n, &names, i * WIDTH, lengths[i]) {
+            return code(i);
         }
         i += 1;
     }
-    250
+    Code::NO_SUCH as u8
 }

@@ -10,10 +10,10 @@ ghost use Rattle.leaves.specs.Numbers.{most, grown as grownOf, digits as
 fn digit(b: u8) -> u32
     ensures { λ r. ⌜ (r ≡ b - 48) × (r ≤ 207) ⌝ }
 {
-    if b < 48 {
+    if b < b'0' {
         return 0;
     }
-    (b - 48) as u32
+    (b - b'0') as u32
 }
 
 // One digit more, up to a number that is past the limit of integers.
@@ -73,7 +73,7 @@ pub fn fixed(text: &[u8], at: usize, n: usize) -> u32
     let mut m = n;
     while 0 < m {
         let b = byte(text, i);
-        if b == 46 {
+        if b == b'.' {
             return v * 1000 + three(text, i + 1, m - 1);
         }
         v = grown(v, b);
@@ -107,7 +107,7 @@ pub fn integer(text: &[u8], at: usize, n: usize) -> u32
     if n == 0 {
         return above(digits(text, at, 0));
     }
-    if byte(text, at) == 45 {
+    if byte(text, at) == b'-' {
         return below(digits(text, at + 1, n - 1));
     }
     above(digits(text, at, n))
@@ -121,7 +121,7 @@ pub fn float(text: &[u8], at: usize, n: usize) -> u32
     if n == 0 {
         return above(fixed(text, at, 0));
     }
-    if byte(text, at) == 45 {
+    if byte(text, at) == b'-' {
         return below(fixed(text, at + 1, n - 1));
     }
     above(fixed(text, at, n))

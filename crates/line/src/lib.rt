@@ -10,20 +10,9 @@ use tests::Verdict;
 use tokens::Read;
 use written::Answer;
 ghost use mathlib.Core.Path.{_≡_};
-ghost use lib.ListN.{length, replicate};
+ghost use lib.ListN.{length};
 ghost use Rattle.line.specs.Reply.{Reply, Answered};
 ghost use Rattle.line.specs.Steps.{Blank, Lexed};
-
-// All zero.
-fn clear(out: &mut [u8])
-    ensures { λ _. ⌜ now (out .exit) ≡ replicate (length (now (out .entry))) 0 ⌝ }
-{
-    let mut i = 0;
-    while i < out.len() {
-        out[i] = 0;
-        i += 1;
-    }
-}
 
 // The tests on the tokens, and then the value.
 fn tested(line: &[u8], kinds: &[u8], places: &[usize], lengths: &[usize], out: &mut [u8]) -> usize
@@ -49,14 +38,14 @@ fn tested(line: &[u8], kinds: &[u8], places: &[usize], lengths: &[usize], out: &
 pub fn answer(line: &[u8], out: &mut [u8]) -> usize
     ensures { λ r. ⌜ Reply (now (line .entry)) (length (now (out .entry))) (now (out .exit)) r ⌝ }
 {
-    clear(out);
+    blank::clear_bytes(out);
     if out.len() < Answer::LIMIT {
         return 0;
     }
     let mut kinds = [0u8; TokenList::LIMIT];
     let mut places = [0usize; TokenList::LIMIT];
     let mut lengths = [0usize; TokenList::LIMIT];
-    match tokens::tokens(line, &mut kinds, &mut places, &mut lengths) {
+    match tokens::into_blank(line, &mut kinds, &mut places, &mut lengths) {
         Read::Short => 0,
         Read::Refused(n, _) => written::refused(n, out, 0),
         Read::Tokens(n) => tested(line, &kinds[..n], &places, &lengths, out),

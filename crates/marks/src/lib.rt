@@ -1,4 +1,5 @@
 // Marks of tasks that their children raise.
+use limits::Tasks;
 ghost use mathlib.Core.Path.{_≡_};
 ghost use mathlib.Core.Bool.{_&&_, _||_};
 ghost use Prim.Native.Nat.{ℕ, _+_, _<_};
@@ -10,7 +11,7 @@ pub fn parent(x: usize) -> usize
     ensures { λ r. ⌜ (r < 32) × ((T : ℕ) → T < 32 → x ≡ T + 1 → r ≡ T) ⌝ }
 {
     if 0 < x {
-        if x <= 32 {
+        if x <= Tasks::LIMIT {
             return x - 1;
         }
     }

@@ -27,9 +27,9 @@ use Rattle.row_tests.specs.declared.Found as Found
 use Found.{Found}
 use Found.the-variants as Answer
 use Rattle.row_tests.specs.Table.{row-limit, cellOf, kindOf, sheet}
-use Rattle.names.specs.Lists.{Lists, Gathers, Chosen, tally, tally-onto, entry, index}
-use Rattle.names.specs.Least.{Least, nearer, least-as, least-more}
-use Rattle.names.specs.Flaws.{Flawed}
+use Rattle.name_tests.specs.Lists.{Lists, Gathers, Chosen, tally, tally-onto, entry, index}
+use Rattle.row_tests.specs.Least.{Least, nearer, least-as, least-more}
+use Rattle.name_tests.specs.Flaws.{Flawed}
 use Rattle.names.specs.Walk.{Begun, Told, Reaches}
 
 -- ---- definitions
@@ -261,3 +261,10 @@ concluded {x} {n} b {t1 = t1} {i1 = i1} {w0 = w0} {m = m} {d = d} best r c lt um
     let i : Lists is-data x n i1 d = record { count = ci .count; room = omega arith; entered = ci .entered } in
     let s : Begun x n b t1 m w0 = record { lists = t; first = first-task x n b g shape a; room = omega arith; blank = z } in
     told x n b g shape a t (w .told s) r (h n b t (f t i))
+
+-- at most one answer
+pub one-told : (g : List TopLevel) (r s : Found) → Told-of g r → Told-of g s → r ≡ s
+one-told g (Answer.At p) (Answer.At q) h k = ap Answer.At (let a = h .1 q (k .0) in let b = k .1 p (h .0) in let e : p ≡ q = omega arith in e)
+one-told g (Answer.At p) Answer.Nowhere h k = absurd (k p (h .0))
+one-told g Answer.Nowhere (Answer.At q) h k = absurd (h q (k .0))
+one-told g Answer.Nowhere Answer.Nowhere h k = refl

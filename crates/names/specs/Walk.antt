@@ -15,8 +15,8 @@ use Rattle.row_names.specs.Sheet
 use Sheet.{Sheet, task-kind, head-kind, Task, Of, Same, Holds, Reached, the-root, by-component}
 use Rattle.row_tests.specs.Table.{cellOf, kindOf, sheet, component-named}
 use Rattle.row_tests.specs.Searched.{One, Some, Finish}
-use Rattle.names.specs.Lists.{Lists, entry, index, tally}
-use Rattle.names.specs.Flaws.{found-kind, found-same, passes}
+use Rattle.name_tests.specs.Lists.{Lists, entry, index, tally}
+use Rattle.name_tests.specs.Flaws.{found-kind, found-same, passes}
 
 -- ---- one plan's component names a task
 

@@ -1,11 +1,11 @@
-// The tasks that are reached from the root, by marks: 0 not reached so far, 1 reached, 2 reached and its components followed.
+// The tasks that are reached from the root, by marks.
 // Each plan is followed once.
-use super::flaws::nearer;
 use parts::byte;
 use parts::number;
 use row_tests::Found;
 use row_tests::cells::handle;
 use row_tests::cells::place;
+use row_tests::least::nearer;
 use row_tests::search::finish;
 use row_tests::search::named;
 ghost use mathlib.Core.Path.{_≡_};
@@ -13,6 +13,17 @@ ghost use Prim.Native.Nat.{_+_};
 ghost use lib.ListN.{length};
 ghost use Rattle.names.specs.Walk.{Follows, Marks, Spreads, Reaches, Waits};
 ghost use Rattle.names.specs.Verdict.{Tells, TellsOne};
+
+// A task's mark: it is not reached so far, reached, or reached and its components followed.
+struct Visit;
+
+impl Visit {
+    const NONE: u8 = 0;
+
+    const REACHED: u8 = 1;
+
+    const FOLLOWED: u8 = 2;
+}
 
 // Whether a component of the plan that begins at the row `t` has the name of the k-th task.
 fn follows(rows: &[u32], n: usize, bytes: &[u8], tasks: &[u32], t: usize, k: usize) -> bool
@@ -33,13 +44,13 @@ fn mark(rows: &[u32], n: usize, bytes: &[u8], tasks: &[u32], t: usize, k: usize,
     if marks.len() <= k {
         return;
     }
-    if marks[k] != 0 {
+    if marks[k] != Visit::NONE {
         return;
     }
     if !follows(rows, n, bytes, tasks, t, k) {
         return;
     }
-    marks[k] = 1;
+    marks[k] = Visit::REACHED;
 }
 
 // Marks all tasks that the plan leads to.
@@ -59,7 +70,7 @@ fn waiting(marks: &[u8]) -> usize
 {
     let mut k = 0;
     while k < marks.len() {
-        if marks[k] == 1 {
+        if marks[k] == Visit::REACHED {
             return k;
         }
         k += 1;
@@ -74,10 +85,10 @@ pub fn reach(rows: &[u32], n: usize, bytes: &[u8], tasks: &[u32], m: usize, mark
     if marks.len() == 0 {
         return;
     }
-    marks[0] = 1;
+    marks[0] = Visit::REACHED;
     let mut i = waiting(marks);
     while i < marks.len() {
-        marks[i] = 2;
+        marks[i] = Visit::FOLLOWED;
         spread(rows, n, bytes, tasks, m, number(tasks, i), marks);
         i = waiting(marks);
     }
@@ -87,7 +98,7 @@ pub fn reach(rows: &[u32], n: usize, bytes: &[u8], tasks: &[u32], m: usize, mark
 fn tell(rows: &[u32], tasks: &[u32], marks: &[u8], k: usize, best: Found) -> Found
     ensures { λ r. ⌜ TellsOne (now (rows .entry)) (now (tasks .entry)) (now (marks .entry)) k best r ⌝ }
 {
-    if byte(marks, k) == 0 {
+    if byte(marks, k) == Visit::NONE {
         return nearer(best, place(rows, number(tasks, k)));
     }
     best

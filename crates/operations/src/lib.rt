@@ -1,4 +1,10 @@
 // 8.5.1, 8.5.2, 8.5.4 and 8.5.5: the rows that the review of a task adds to the Changes table.
+use changes::Column;
+use changes::Row;
+use changes::State;
+use changes::Tag;
+use limits::Assignments;
+use state::Plan;
 ghost use mathlib.Core.Path.{_≡_};
 ghost use Prim.Native.Nat.{_+_, _≤_, _<_};
 ghost use lib.ListN.{getD};
@@ -10,11 +16,11 @@ fn initialise(f: &[u32], t: u32, out: &mut [u32], n: usize) -> usize
     ensures { λ r. ⌜ InitialiseRows (now (f .entry)) t (now (out .entry)) n (now (out .exit)) r ⌝ }
     ensures few { λ r. ⌜ r ≤ n + 6 ⌝ }
 {
-    let a = changes::push(out, n, t, 8, 5, 1);
-    let b = changes::push(out, a, t, 200, 3, 0);
-    let c = changes::push(out, b, t, 328, 1, 0);
-    let d = changes::push(out, c, t, 72, 2, 0);
-    let e = changes::push(out, d, t, 264, 1, 0);
+    let a = changes::push(out, n, t, Column::STATE, Tag::STATE, State::DORMANT);
+    let b = changes::push(out, a, t, Column::CYCLE_COUNT, Tag::COUNT, 0);
+    let c = changes::push(out, b, t, Column::START_AT, Tag::UNKNOWN, 0);
+    let d = changes::push(out, c, t, Column::TRIGGER_ACTIVE, Tag::TRUTH, 0);
+    let e = changes::push(out, d, t, Column::NBR_CYCLES_VALUE, Tag::UNKNOWN, 0);
     starting::procedure(f, t, out, e)
 }
 
@@ -23,8 +29,8 @@ fn discard(t: u32, clock: u32, out: &mut [u32], n: usize) -> usize
     ensures { λ r. ⌜ DiscardRows clock t (now (out .entry)) n (now (out .exit)) r ⌝ }
     ensures few { λ r. ⌜ r ≤ n + 2 ⌝ }
 {
-    let a = changes::push(out, n, t, 8, 5, 3);
-    changes::push(out, a, t, 456, 4, clock)
+    let a = changes::push(out, n, t, Column::STATE, Tag::STATE, State::DISCARDED);
+    changes::push(out, a, t, Column::DISCARDED_TIME, Tag::TIME, clock)
 }
 
 // The row of the assignment with the number `a`.
@@ -32,14 +38,21 @@ fn assign(f: &[u32], a: usize, out: &mut [u32], n: usize) -> usize
     ensures { λ r. ⌜ AssignRow (now (f .entry)) a (now (out .entry)) n (now (out .exit)) r ⌝ }
     ensures few { λ r. ⌜ r ≤ n + 1 ⌝ }
 {
-    if 256 <= a {
+    if Assignments::LIMIT <= a {
         return n;
     }
-    let d = blocks::cell(f, 680 + a);
-    if 64 <= d {
+    let d = blocks::cell(f, Plan::ASSIGNED_ITEM + a);
+    if Row::ITEMS <= d {
         return n;
     }
-    changes::push(out, n, 65536 + d, 776, 4, a as u32)
+    changes::push(
+        out,
+        n,
+        Row::ITEM + d,
+        Column::VALUE,
+        Tag::ASSIGNED,
+        a as u32,
+    )
 }
 
 // 8.5.11: a row for each of `count` assignments from the one with the number `first` on, which holds that number.
@@ -64,14 +77,14 @@ fn complete(f: &[u32], t: u32, clock: u32, out: &mut [u32], n: usize) -> usize
     ensures { λ r. ⌜ CompleteRows (now (f .entry)) clock t (now (out .entry)) n (now (out .exit)) r ⌝ }
     ensures few { λ r. ⌜ r ≤ n + (3 + getD (now (f .entry)) (648 + t) 0) ⌝ }
 {
-    let a = changes::push(out, n, t, 8, 5, 4);
-    let b = changes::push(out, a, t, 520, 4, clock);
-    let c = changes::push(out, b, t, 328, 1, 0);
+    let a = changes::push(out, n, t, Column::STATE, Tag::STATE, State::COMPLETED);
+    let b = changes::push(out, a, t, Column::COMPLETED_TIME, Tag::TIME, clock);
+    let c = changes::push(out, b, t, Column::START_AT, Tag::UNKNOWN, 0);
     let i = t as usize;
     assigns(
         f,
-        blocks::cell(f, 616 + i),
-        blocks::cell(f, 648 + i),
+        blocks::cell(f, Plan::FIRST_ASSIGNMENT + i),
+        blocks::cell(f, Plan::ASSIGNMENTS + i),
         out,
         c,
     )

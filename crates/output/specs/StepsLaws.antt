@@ -10,7 +10,8 @@ use lib.Seq.{take-at}
 use borrow.Author.Tests.{lt-ltb}
 use Rattle.paper_guideline.specs.Line.{LineAnswer, LineAnswers, digits-in, digits-of, answer-written}
 use Rattle.tokens.specs.Reply.{filled}
-use Rattle.digits.specs.Appends.{Appends, append-nothing, append-then, appends-as}
+use Rattle.digits.specs.Appends.{Appends}
+use Rattle.digits.specs.AppendsLaws.{append-nothing, append-then, appends-as}
 use Rattle.lines.specs.Kept.{Takes}
 use Rattle.lines.specs.Run.{line-written, Run, line-ends, line-goes-on, last-line, no-last-line}
 use Rattle.lines.specs.RunLaws.{moves-on}

@@ -10,6 +10,9 @@ ghost use Prim.Native.Nat.{_+_, _*_, _-_, _<_};
 ghost use lib.ListN.{getD};
 ghost use Rattle.parts.specs.Texts.{literal as literalOf};
 
+// A text's handle is so many times its place in the text bytes, and its length.
+pub const HANDLE: usize = 64;
+
 // A cell of a slice of numbers, as it stands there.
 pub fn word(col: &[u32], i: usize) -> u32
     ensures { λ r. ⌜ r ≡ getD (now (col .entry)) i 0 ⌝ }

@@ -1,5 +1,6 @@
 // Names: two texts that are equal if case is ignored, and the data item that a text names.
 // A text is given by its place in the bytes and its length; a byte past the end of the bytes is 0.
+use super::HANDLE;
 use super::number;
 ghost use mathlib.Core.Path.{_≡_};
 ghost use Prim.Native.Nat.{_+_};
@@ -65,7 +66,7 @@ pub fn find(bytes: &[u8], names: &[u32], h: usize) -> usize
     let mut i = 0;
     while i < names.len() {
         let x = number(names, i);
-        if alike(bytes, x / 64, x % 64, h / 64, h % 64) {
+        if alike(bytes, x / HANDLE, x % HANDLE, h / HANDLE, h % HANDLE) {
             return i;
         }
         i += 1;

@@ -11,7 +11,8 @@ use lib.ListN.{getD, length, set, length-append}
 use Rattle.parts.specs.Texts.{cells, handle, textAt}
 use Rattle.parts.specs.Encode.{Part, part, flat}
 use Rattle.parts.specs.EncodeLaws.{flat-length, flat-append}
-use Rattle.pool.specs.Written.{Written, written-none, written-one, written-more, row-same, row-last}
+use Rattle.pool.specs.Written.{Written}
+use Rattle.pool.specs.WrittenLaws.{written-none, written-one, written-more, row-same, row-last}
 use Rattle.pool.specs.Pooled.{nowhere, Fits}
 
 -- ---- definitions

@@ -20,7 +20,8 @@ use Rattle.parts.specs.Encode as parts
 use Rattle.parts.specs.Encode.{part, flat, name, name-load, spelling, spellings, encode, encodes, Spelt, Is, Laid}
 use Rattle.parts.specs.EncodeLaws.{spelt-cells, split, spelt-laid}
 use Rattle.parts.specs.Kept.{HasText}
-use Rattle.pool.specs.Written.{Written, spelt-split}
+use Rattle.pool.specs.Written.{Written}
+use Rattle.pool.specs.WrittenLaws.{spelt-split}
 use Rattle.pool.specs.Pooled.{Fits, Below, Pooled, Gathers}
 use Rattle.pool.specs.Columns.{texted, word, load, word-at, part-at, said, marks, Moved, part-same, text-length, marks-length, said-both, marks-both, load-some, word-some}
 

@@ -1,4 +1,5 @@
 pub mod Written
+pub mod WrittenLaws
 pub mod Pooled
 pub mod Columns
 pub mod Held

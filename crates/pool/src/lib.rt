@@ -1,6 +1,7 @@
 // The names and texts of an expression, gathered in the text bytes: a part table that the reader has filled leads into the
 // guideline's own text, and afterwards holds the same expression over the text bytes.
 use parts::Code;
+use parts::HANDLE;
 use parts::byte;
 ghost use mathlib.Core.Path.{_≡_};
 ghost use lib.ListN.{length};
@@ -64,12 +65,12 @@ fn move_text(text: &[u8], cells: &mut [u32], i: usize, bytes: &mut [u8], o: usiz
         return o;
     }
     let x = parts::load(cells, i) as usize;
-    let n = x % 64;
+    let n = x % HANDLE;
     if !room(bytes.len(), o, n) {
         return NOWHERE;
     }
-    cells[i * 4 + 3] = (o * 64 + n) as u32;
-    copy(text, x / 64, n, bytes, o);
+    cells[i * 4 + 3] = (o * HANDLE + n) as u32;
+    copy(text, x / HANDLE, n, bytes, o);
     o + n
 }
 

@@ -36,7 +36,7 @@ fn lexed(text: &[u8], rows: &mut [u32], cells: &mut [u32], bytes: &mut [u8]) -> 
     let mut kinds = [0u8; TokenList::LIMIT];
     let mut places = [0usize; TokenList::LIMIT];
     let mut lengths = [0usize; TokenList::LIMIT];
-    match tokens::tokens(text, &mut kinds, &mut places, &mut lengths) {
+    match tokens::into_blank(text, &mut kinds, &mut places, &mut lengths) {
         Read::Short => Reading::Refused(6, text.len()),
         Read::Refused(n, p) => Reading::Refused(n, p),
         Read::Tokens(n) => structured(text, &kinds[..n], &places, &lengths, rows, cells, bytes),

@@ -1,4 +1,6 @@
 // 8.3.2, 2: the review of all tasks against one table, and the rows of the Changes table that it leaves.
+use changes::Row;
+use state::Plan;
 ghost use mathlib.Core.Path.{_≡_};
 ghost use Prim.Native.Nat.{_≤_};
 ghost use lib.ListN.{getD};
@@ -8,8 +10,8 @@ ghost use Rattle.review.specs.Changes.{EachRows, Few, Reviews};
 fn tasks(f: &[u32]) -> u32
     ensures { λ r. ⌜ (r ≤ 32) × (getD (now (f .entry)) 0 0 ≤ 32 → r ≡ getD (now (f .entry)) 0 0) ⌝ }
 {
-    let n = blocks::cell(f, 0);
-    if n <= 32 {
+    let n = blocks::cell(f, Plan::TASKS);
+    if n <= Row::TASKS {
         return n;
     }
     0

@@ -32,7 +32,7 @@ use Rattle.row_names.specs.Agreement
 use Agreement.{Agrees, in-list, top-of, stand-of, row-at, inside-sheet}
 use Rattle.row_names.specs.Owners
 use Owners.{Own, the-word, of-component, of-source, of-assigned, own-view, word-row, own-of, In, component-is, source-is, is-component, is-source, component-task, source-task, component-all, source-all, body-at, head-there}
-use Owners.{generic-word, attribute-word, component-word, source-word, generic-kind, generic-place, component-kind, component-place, source-kind, source-place}
+use Owners.{generic-word, word-of, component-word, source-word, generic-kind, generic-place, component-kind, component-place, source-kind, source-place}
 
 -- ---- words that stand once, and rows that part nothing
 
@@ -60,7 +60,7 @@ generic-once : (a : Generic) → once (generic-word a) ≡ true
 generic-once (caption x) = refl
 generic-once (description x) = refl
 
-attribute-once : (a : Attribute) → ¬ Names.MayRepeat (attribute-word a) → once (attribute-word a) ≡ true
+attribute-once : (a : Attribute) → ¬ Names.MayRepeat (word-of a) → once (word-of a) ≡ true
 attribute-once (generic g) h = generic-once g
 attribute-once (precondition x) h = refl
 attribute-once (wait-condition x) h = refl
@@ -90,7 +90,7 @@ component-inner : (a : ComponentAttribute) → once (component-word a) ≡ true 
 component-inner (schedule-constraint n) e = contra e
 component-inner (terminal b) e = refl
 
-inner-generic : (a : Attribute) → inner (attribute-word a) ≡ true → is-generic a ≡ true
+inner-generic : (a : Attribute) → inner (word-of a) ≡ true → is-generic a ≡ true
 inner-generic (generic g) e = refl
 inner-generic (precondition x) e = e
 inner-generic (wait-condition x) e = e
@@ -108,7 +108,7 @@ generic-of-task : (g : Generic) → foreign (generic-word g) ≡ false
 generic-of-task (caption x) = refl
 generic-of-task (description x) = refl
 
-of-task : (a : Attribute) → foreign (attribute-word a) ≡ false
+of-task : (a : Attribute) → foreign (word-of a) ≡ false
 of-task (generic g) = generic-of-task g
 of-task (precondition x) = refl
 of-task (wait-condition x) = refl
@@ -267,7 +267,7 @@ module _ (g : List TopLevel) (s : Sheet) (a : Agrees s (flatten g)) (shape : Sha
       go (no u) (yes v) = absurd (let z = in-order q p v in omega arith)
       go (no u) (no v) = absurd (let w : k ≡ m = omega arith in let z = one-piece (subst (λ (n : ℕ). Piece own-rows xs n o b) w p) q in let y = z .0 in omega arith)
 
-  pub task-again : {i p : ℕ} {t : Task} → At (tasks g) i t → Names.Repeated attribute-word (t .attributes) p → Broken p
+  pub task-again : {i p : ℕ} {t : Task} → At (tasks g) i t → Names.Repeated word-of (t .attributes) p → Broken p
   task-again {i} {t = t} h f =
       let q = stand-of g i t h in
       let j = q .0 in
@@ -286,7 +286,7 @@ module _ (g : List TopLevel) (s : Sheet) (a : Agrees s (flatten g)) (shape : Sha
       (λ m u v. subst (λ (z : ℕ). parts-from z (s .kind m) ≡ false) (sym (e .2)) (between q (y .1) (e .1) m (omega arith) v))
     where
       between : (q : (j : ℕ) × Agreement.Stand g i j t) {o : ℕ} {r : Row} → Piece own-rows (t .attributes) (f .j) o (f .later) → At (own-rows (f .later)) 0 r
-          → (m : ℕ) → q .0 < m → m < suc (q .0 + (o + 0)) → parts-from (attribute-word (f .later .what)) (s .kind m) ≡ false
+          → (m : ℕ) → q .0 < m → m < suc (q .0 + (o + 0)) → parts-from (word-of (f .later .what)) (s .kind m) ≡ false
       between q {o} {r} y e m u v =
           let b : At (body (task t)) (o + 0) r = subst (λ (l : List Row). At l (o + 0) r) (sym (attributes-each (t .attributes))) (in-whole y e (o + 0) refl) in
           let n = index-of b in
@@ -294,13 +294,13 @@ module _ (g : List TopLevel) (s : Sheet) (a : Agrees s (flatten g)) (shape : Sha
           let k = a .kind (body-at g s a (q .1 .piece) (d .1) m (omega arith)) in
           let l = own-of t (d .1) in
           let z = l .index in
-          subst (λ (z : ℕ). parts-from (attribute-word (f .later .what)) z ≡ false) (sym k)
+          subst (λ (z : ℕ). parts-from (word-of (f .later .what)) z ≡ false) (sym k)
           (⊎-elim
-          (λ (c : inner (attribute-word (f .later .what)) ≡ true).
-          quiet (attribute-word (f .later .what))
+          (λ (c : inner (word-of (f .later .what)) ≡ true).
+          quiet (word-of (f .later .what))
           (generic-element (l .element) (shape .leads h .before (before-piece (l .piece) y (omega arith)) (piece-at (l .piece)) (f .at-j) (inner-generic (f .later .what) c)) (l .at)))
-          (λ c. parts-none (attribute-word (f .later .what)) (kind-of (d .0)) (body-inside (task t) (d .1) .plain) c)
-          (two (inner (attribute-word (f .later .what)))))
+          (λ c. parts-none (word-of (f .later .what)) (kind-of (d .0)) (body-inside (task t) (d .1) .plain) c)
+          (two (inner (word-of (f .later .what)))))
 
   -- ---- from the rows
 
@@ -335,7 +335,7 @@ module _ (g : List TopLevel) (s : Sheet) (a : Agrees s (flatten g)) (shape : Sha
 
       module _ {c n : ℕ} {b : Placed Attribute} (y : Piece own-rows (t .attributes) c n b) where
         -- the attribute's own row: the earlier one is an attribute's own row too
-        word-back : kind-of r ≡ attribute-word (b .what) → Rows.word-of r ≡ b .word → m ≡ n + 0 → m < length (body (task t)) → Names.NameBreach g (spot s j)
+        word-back : kind-of r ≡ word-of (b .what) → Rows.word-of r ≡ b .word → m ≡ n + 0 → m < length (body (task t)) → Names.NameBreach g (spot s j)
         word-back x place z bound =
             let v = behind-head p (omega arith) in
             let d = at-index (body (task t)) (i - suc q) (omega arith) in
@@ -343,13 +343,13 @@ module _ (g : List TopLevel) (s : Sheet) (a : Agrees s (flatten g)) (shape : Sha
             let o = own-of t (d .1) in
             let ix = o .index in
             let before = before-piece (o .piece) y (omega arith) in
-            let same : kind-of (d .0) ≡ attribute-word (b .what) = sym h ∙ e ∙ a .kind w ∙ x in
+            let same : kind-of (d .0) ≡ word-of (b .what) = sym h ∙ e ∙ a .kind w ∙ x in
             go (o .element .what) refl (own-view (o .element .word) (o .element .what) (o .at)) same before (piece-at (o .piece))
           where
-            go : {w' : ℕ} {z' : Row} {m' k' : ℕ} {b' : Placed Attribute} (x' : Attribute) → b' .what ≡ x' → Own w' x' m' z' → kind-of z' ≡ attribute-word (b .what) → k' < c → At (t .attributes) k' b'
+            go : {w' : ℕ} {z' : Row} {m' k' : ℕ} {b' : Placed Attribute} (x' : Attribute) → b' .what ≡ x' → Own w' x' m' z' → kind-of z' ≡ word-of (b .what) → k' < c → At (t .attributes) k' b'
                 → Names.NameBreach g (spot s j)
             go {k' = k'} {b'} x' is (the-word kind there) same before at =
-                let word : attribute-word (b' .what) ≡ attribute-word (b .what) = ap attribute-word is ∙ sym kind ∙ same in
+                let word : word-of (b' .what) ≡ word-of (b .what) = ap word-of is ∙ sym kind ∙ same in
                 at-spot (a .word w ∙ place)
                 (Names.task-attribute-twice (in-list-of-tasks .1)
                 (record { i = k'; j = c; earlier = b'; later = b; in-order = before; at-i = at; at-j = piece-at y; same = word; once = may-not (ap once (word ∙ sym x ∙ sym (a .kind w)) ∙ o); there = refl }))
@@ -361,10 +361,10 @@ module _ (g : List TopLevel) (s : Sheet) (a : Agrees s (flatten g)) (shape : Sha
             go x' is (of-assigned h q') same before at = contra (sym (of-task (b .what)) ∙ ap foreign (sym (sym (ap kind-of q') ∙ same)))
 
         -- the attribute's first row, before the rows of a component or source
-        first-there : (x : Attribute) → b .what ≡ x → s .kind (suc (q + (n + 0))) ≡ attribute-word x
+        first-there : (x : Attribute) → b .what ≡ x → s .kind (suc (q + (n + 0))) ≡ word-of x
         first-there x is =
             let z = word-row (b .word) (b .what) in
-            a .kind (Owners.own-at g s a p y (z .1) (suc (q + (n + 0))) refl) ∙ z .2 ∙ ap attribute-word is
+            a .kind (Owners.own-at g s a p y (z .1) (suc (q + (n + 0))) refl) ∙ z .2 ∙ ap word-of is
 
         component-back : {h : Name} {xs : List (Placed ComponentAttribute)} {d : ℕ} {x : Placed ComponentAttribute} → b .what ≡ component h xs → At xs d x → r ≡ component-row (x .word) (x .what)
             → m ≡ n + suc d → Names.NameBreach g (spot s j)
@@ -395,7 +395,7 @@ module _ (g : List TopLevel) (s : Sheet) (a : Agrees s (flatten g)) (shape : Sha
             (omega arith) l (omega arith) at e o))
 
         own-back : (x : Attribute) {d : ℕ} → b .what ≡ x → Own (b .word) x d r → m ≡ n + d → m < length (body (task t)) → Names.NameBreach g (spot s j)
-        own-back x is (the-word kind there) z bound = word-back (kind ∙ ap attribute-word (sym is)) there z bound
+        own-back x is (the-word kind there) z bound = word-back (kind ∙ ap word-of (sym is)) there z bound
         own-back x is (of-component at re) z bound = component-back is at re z
         own-back x is (of-source at re) z bound = source-back is at re z
         own-back x is (of-assigned at re) z bound = contra (sym (ap once (a .kind w ∙ ap kind-of re)) ∙ o)

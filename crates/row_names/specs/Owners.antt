@@ -23,6 +23,7 @@ use Structure.{Attribute, generic, precondition, wait-condition, terminate, post
 use Rattle.paper_guideline.specs.Parts.{Component, components-of, components, Source, sources-of, sources}
 use Rattle.guideline_rows.specs.Rows
 use Rows.{Row, an-assignment, generic-row, component-row, source-row, placed-rows, attribute-rows, attributes-rows, flatten, kind-of, name-of}
+pub use Rattle.paper_guideline.specs.Names.{generic-word, word-of, component-word, source-word}
 use Rattle.row_names.specs.Pieces
 use Pieces.{Piece, at-piece, piece-at, in-whole, Located, locate, in-order, one-piece, within, Mapped, map-at}
 use Rattle.row_names.specs.Sheet
@@ -30,30 +31,6 @@ use Sheet.{Sheet, head-kind}
 use Rattle.row_names.specs.Flat
 use Flat.{head-row, body, top-rows, own-rows, attributes-each, flat-each, PlacedIn, at-placed, body-inside, head-is-head}
 use Rattle.row_names.specs.Agreement.{Agrees, top-of, in-flat, row-at, inside-sheet}
-
--- ---- the words of attributes, as the rules on repeated attributes have them
-
-abbrev pub generic-word : Generic → ℕ
-generic-word (caption x) = “caption”
-generic-word (description x) = “description”
-
-abbrev pub attribute-word : Attribute → ℕ
-attribute-word (generic g) = generic-word g
-attribute-word (precondition x) = “precondition”
-attribute-word (wait-condition x) = “wait-condition”
-attribute-word (terminate x) = “terminate”
-attribute-word (postcondition xs) = “postcondition”
-attribute-word (trigger n) = “trigger”
-attribute-word (component n xs) = “component”
-attribute-word (source n xs) = “source”
-
-abbrev pub component-word : ComponentAttribute → ℕ
-component-word (schedule-constraint n) = “schedule-constraint”
-component-word (terminal b) = “terminal”
-
-abbrev pub source-word : SourceAttribute → ℕ
-source-word (source-generic g) = generic-word g
-source-word (mandatory b) = “mandatory”
 
 pub generic-kind : (p : ℕ) (g : Generic) → kind-of (generic-row p g) ≡ generic-word g
 generic-kind p (caption x) = refl
@@ -83,7 +60,7 @@ source-place p (mandatory b) = refl
 
 -- the first, with its word; or one of a component, of a source, of a postcondition
 pub data Own (p : ℕ) : Attribute → ℕ → Row → Type 0 where
-  the-word : {a : Attribute} {r : Row} → kind-of r ≡ attribute-word a → Rows.word-of r ≡ p → Own p a zero r
+  the-word : {a : Attribute} {r : Row} → kind-of r ≡ word-of a → Rows.word-of r ≡ p → Own p a zero r
   of-component : {n : Name} {xs : List (Placed ComponentAttribute)} {l : ℕ} {x : Placed ComponentAttribute} {r : Row}
       → At xs l x → r ≡ component-row (x .word) (x .what) → Own p (component n xs) (suc l) r
   of-source : {n : Name} {xs : List (Placed SourceAttribute)} {l : ℕ} {x : Placed SourceAttribute} {r : Row}
@@ -105,7 +82,7 @@ own-view p (source n xs) at-first = the-word refl refl
 own-view p (source n xs) (at-later h) = let r = at-placed source-row xs h in of-source (r .at) (r .is)
 
 -- the first row is there
-pub word-row : (p : ℕ) (a : Attribute) → (r : Row) × At (attribute-rows p a) 0 r × (kind-of r ≡ attribute-word a) × (Rows.word-of r ≡ p)
+pub word-row : (p : ℕ) (a : Attribute) → (r : Row) × At (attribute-rows p a) 0 r × (kind-of r ≡ word-of a) × (Rows.word-of r ≡ p)
 word-row p (generic g) = (generic-row p g, at-first, generic-kind p g, generic-place p g)
 word-row p (precondition x) = (_, at-first, refl, refl)
 word-row p (wait-condition x) = (_, at-first, refl, refl)

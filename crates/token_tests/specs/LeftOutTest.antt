@@ -25,7 +25,7 @@ use Rattle.paper_guideline.specs.LeftOut.{left-out-words, left-out-functors, Le
 use Rattle.parts.specs.Texts.{cells}
 use Rattle.words.specs.Entries.{Same}
 use Rattle.terminals.specs.Every.{at-below}
-use Rattle.leaves.specs.Cells.{part-cells}
+use Rattle.leaves.specs.Cells.{same-parts}
 use Rattle.leaves.specs.Leaf.{atom-range}
 use Rattle.leaves.specs.Source.{Source, Here, Stand, at-end, at-token}
 use Rattle.token_tests.specs.Exponent.{has-exponent, plain-none, none-plain}
@@ -109,19 +109,10 @@ pub rows-fit : (i : ℕ) → i < 16 → i * 16 + getD name-lengths i 0 ≤ lengt
 unfolding name-bytes name-lengths
 rows-fit i h = leb→le (i * 16 + getD name-lengths i 0) 256 (at-below (λ k. leb (k * 16 + getD name-lengths k 0) 256) 16 tt i h)
 
-same-is : {v w : List ℕ} (r : Bool) → Same v w r → r ≡ sameb w v
-same-is {v} {w} true s = sym (reflects-true (same-reflects w v) (sym (s .yes refl)))
-same-is {v} {w} false s = ⊎-elim
-    (λ (e : sameb w v ≡ true). absurd (s .no refl (sym (true-reflects (same-reflects w v) e))))
-    (λ (e : sameb w v ≡ false). sym e)
-    (two (sameb w v))
-
 -- what stands in a text is the name of a row
 pub same-name : (t : List ℕ) (at n i : ℕ) (r : Bool) → at + n ≤ length t → i < 16 → Same (part t at n) (part name-bytes (i * 16) (getD name-lengths i 0)) r
     → r ≡ sameb (name-at i) (cells t at n)
-same-name t at n i r h l s =
-    same-is r s ∙ ap (sameb (part name-bytes (i * 16) (getD name-lengths i 0))) (part-cells t at n h)
-    ∙ ap (λ (w : List ℕ). sameb w (cells t at n)) (part-cells name-bytes (i * 16) (getD name-lengths i 0) (rows-fit i l))
+same-name t at n i r h l s = same-parts t name-bytes at n (i * 16) (getD name-lengths i 0) r h (rows-fit i l) s
 
 -- ---- one token
 

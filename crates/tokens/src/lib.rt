@@ -53,26 +53,6 @@ fn high(text: &[u8]) -> usize
     i
 }
 
-fn clear_bytes(column: &mut [u8])
-    ensures { λ _. ⌜ now (column .exit) ≡ replicate (length (now (column .entry))) 0 ⌝ }
-{
-    let mut i = 0usize;
-    while i < column.len() {
-        column[i] = 0;
-        i += 1;
-    }
-}
-
-fn clear(column: &mut [usize])
-    ensures { λ _. ⌜ now (column .exit) ≡ replicate (length (now (column .entry))) 0 ⌝ }
-{
-    let mut i = 0usize;
-    while i < column.len() {
-        column[i] = 0;
-        i += 1;
-    }
-}
-
 // How many brackets are open, and the place of the first one too many, or the text's length.
 pub struct Open {
     pub count: usize,
@@ -193,15 +173,15 @@ fn late(stop: Stop, end: usize) -> Verdict
     Verdict::Fine
 }
 
-// All three columns.
-fn blank(kinds: &mut [u8], places: &mut [usize], lengths: &mut [usize])
+// All three columns, set to zero.
+fn clear(kinds: &mut [u8], places: &mut [usize], lengths: &mut [usize])
     ensures { λ _. ⌜ now (kinds .exit) ≡ replicate (length (now (kinds .entry))) 0 ⌝ }
     ensures { λ _. ⌜ now (places .exit) ≡ replicate (length (now (places .entry))) 0 ⌝ }
     ensures { λ _. ⌜ now (lengths .exit) ≡ replicate (length (now (lengths .entry))) 0 ⌝ }
 {
-    clear_bytes(kinds);
-    clear(places);
-    clear(lengths);
+    blank::clear_bytes(kinds);
+    blank::clear_places(places);
+    blank::clear_places(lengths);
 }
 
 // The columns have a cell for each token that a text may have.
@@ -220,11 +200,16 @@ fn room(kinds: usize, places: usize, lengths: usize) -> bool
     true
 }
 
-// The tokens of a text: kind, place and length of each, and zeros behind the last; or why it is refused, and zeros.
-pub fn tokens(text: &[u8], kinds: &mut [u8], places: &mut [usize], lengths: &mut [usize]) -> Read
+// The tokens of a text, as below, in columns that are blank.
+pub fn into_blank(
+    text: &[u8],
+    kinds: &mut [u8],
+    places: &mut [usize],
+    lengths: &mut [usize],
+) -> Read
+    requires { ⌜ (now kinds ≡ replicate (length (now kinds)) 0) × (now places ≡ replicate (length (now places)) 0) × (now lengths ≡ replicate (length (now lengths)) 0) ⌝ }
     ensures { λ r. ⌜ Reads (now (text .entry)) (length (now (kinds .entry))) (length (now (places .entry))) (length (now (lengths .entry))) (now (kinds .exit)) (now (places .exit)) (now (lengths .exit)) r ⌝ }
 {
-    blank(kinds, places, lengths);
     if !room(kinds.len(), places.len(), lengths.len()) {
         return Read::Short;
     }
@@ -237,9 +222,17 @@ pub fn tokens(text: &[u8], kinds: &mut [u8], places: &mut [usize], lengths: &mut
     let stop = fill(text, kinds, places, lengths);
     match late(stop, text.len()) {
         Verdict::Broken(number, place) => {
-            blank(kinds, places, lengths);
+            clear(kinds, places, lengths);
             Read::Refused(number, place)
         }
         Verdict::Fine => Read::Tokens(stop.n),
     }
+}
+
+// The tokens of a text: kind, place and length of each, and zeros behind the last; or why it is refused, and zeros.
+pub fn tokens(text: &[u8], kinds: &mut [u8], places: &mut [usize], lengths: &mut [usize]) -> Read
+    ensures { λ r. ⌜ Reads (now (text .entry)) (length (now (kinds .entry))) (length (now (places .entry))) (length (now (lengths .entry))) (now (kinds .exit)) (now (places .exit)) (now (lengths .exit)) r ⌝ }
+{
+    clear(kinds, places, lengths);
+    into_blank(text, kinds, places, lengths)
 }

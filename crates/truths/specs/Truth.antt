@@ -86,81 +86,60 @@ pub record Condition (p : Table) (q : ℕ) (o : Option RowValue) : Type 0 where
   pub none-there : q ≡ 0 → (e : Expr) → ¬ (o ≡ some (expression-is e))
   pub there : ¬ (q ≡ 0) → (e : Expr) × (o ≡ some (expression-is e)) × Ends p q (bare e) × Within depth-limit (bare e) × Modest (bare e)
 
--- r says whether what ends at q, if there, is true
-abbrev pub AllowedOf : Table → Columns → ℕ → ℕ → Bool → Type 0
-AllowedOf p c T q r =
-    (g : List TopLevel) (t : Engine.Table) (x : Property) → Lawful g → Kept g t → Setting p c (viewF g t) → Condition p q (t (task № T) x)
-    → ((e : Expr) → Contains t (task № T) x (expression-is e) → HasType (declared-items g) T e TruthValue) → Tests r (Allowed t x T)
-
-pub allowed-none : (p : Table) (c : Columns) (T q : ℕ) → q ≡ 0 → AllowedOf p c T q true
-allowed-none p c T q e g t x lawful kept setting d typed = (λ z a h. absurd (d .none-there e a h), λ z. refl)
-
-pub allowed-there : (p : Table) (c : Columns) (T q : ℕ) {r : Bool} → ¬ (q ≡ 0) → TruthOf p c T q r → AllowedOf p c T q r
-allowed-there p c T q n h g t x lawful kept setting d typed =
-    let k = d .there n in
-    is-as (λ z a i. subst (λ (y : Expr). IsTrue t y T) (same-expression (k .1) i) z) (λ f. f (k .0) (k .1))
-    (h g t (k .0) lawful kept setting (k .2) (k .3) (k .4) (typed (k .0) (k .1)))
-  where
-    same-expression : {o : Option RowValue} {a b : Expr} → o ≡ some (expression-is a) → o ≡ some (expression-is b) → a ≡ b
-    same-expression e f = cc
-
-abbrev pub AllowedUpto : Table → Columns → List ℕ → ℕ → ℕ → List Bool → Type 0
-AllowedUpto p c f d k m = (T : ℕ) → T < k → AllowedOf p c T (getD f (d + T) 0) (marked m T)
-
--- the marks say of which tasks what the property asks for, if there, is true
-abbrev pub AllAllowed : Table → Columns → List ℕ → ℕ → List Bool → Type 0
-AllAllowed p c f d m =
-    (g : List TopLevel) (t : Engine.Table) (x : Property) (n : ℕ) → n ≤ 32 → Lawful g → Kept g t → Setting p c (viewF g t)
-    → ((T : ℕ) → T < n → Condition p (getD f (d + T) 0) (t (task № T) x))
-    → ((T : ℕ) (e : Expr) → Contains t (task № T) x (expression-is e) → HasType (declared-items g) T e TruthValue) → Marks n (Allowed t x) m
-
-pub allowed-more : (p : Table) (c : Columns) (f : List ℕ) (d k : ℕ) (m : List Bool) {q : ℕ} {v : Bool} → length m ≡ 32 → k < 32 → q ≡ getD f (d + k) 0
-    → AllowedOf p c k q v → AllowedUpto p c f d k m → AllowedUpto p c f d (k + 1) (set m k v)
-allowed-more p c f d k m {q} {v} e l x h i =
-    below-more (λ (T : ℕ). AllowedOf p c T (getD f (d + T) 0) (marked (set m k v) T)) k
-    (λ T j. subst (AllowedOf p c T (getD f (d + T) 0)) (sym (getD-set-other m k T v false (λ z. omega arith))) (i T j))
-    (subst (AllowedOf p c k (getD f (d + k) 0)) (sym (getD-set-same m k v false (omega arith))) (subst (λ (y : ℕ). AllowedOf p c k y v) x h))
-
-pub allowed-all : (p : Table) (c : Columns) (f : List ℕ) (d k : ℕ) (m : List Bool) → 32 ≤ k → AllowedUpto p c f d k m → AllAllowed p c f d m
-allowed-all p c f d k m e h g t x n l lawful kept setting held typed T j = h T (omega arith) g t x lawful kept setting (held T j) (typed T)
-
--- ---- there is an expression, and it is true
-
+-- there is an expression, and it is true
 abbrev pub Ended : Engine.Table → Property → ℕ → Type 0
 Ended t x T = (e : Expr) × Contains t (task № T) x (expression-is e) × IsTrue t e T
 
-abbrev pub EndedOf : Table → Columns → ℕ → ℕ → Bool → Type 0
-EndedOf p c T q r =
+-- what the property asks for is true; where there is none, b
+abbrev pub Held : Bool → Engine.Table → Property → ℕ → Type 0
+Held true t x T = Allowed t x T
+Held false t x T = Ended t x T
+
+-- r says whether what ends at q is true
+abbrev pub HeldOf : Bool → Table → Columns → ℕ → ℕ → Bool → Type 0
+HeldOf b p c T q r =
     (g : List TopLevel) (t : Engine.Table) (x : Property) → Lawful g → Kept g t → Setting p c (viewF g t) → Condition p q (t (task № T) x)
-    → ((e : Expr) → Contains t (task № T) x (expression-is e) → HasType (declared-items g) T e TruthValue) → Tests r (Ended t x T)
+    → ((e : Expr) → Contains t (task № T) x (expression-is e) → HasType (declared-items g) T e TruthValue) → Tests r (Held b t x T)
 
-pub ended-none : (p : Table) (c : Columns) (T q : ℕ) → q ≡ 0 → EndedOf p c T q false
-ended-none p c T q e g t x lawful kept setting d typed = (λ z. absurd (no-clash (cc)), λ z. absurd (d .none-there e (z .0) (z .1)))
+pub held-none : (b : Bool) (p : Table) (c : Columns) (T q : ℕ) → q ≡ 0 → HeldOf b p c T q b
+held-none true p c T q e g t x lawful kept setting d typed = (λ z a h. absurd (d .none-there e a h), λ z. refl)
+held-none false p c T q e g t x lawful kept setting d typed = (λ z. absurd (no-clash (cc)), λ z. absurd (d .none-there e (z .0) (z .1)))
 
-pub ended-there : (p : Table) (c : Columns) (T q : ℕ) {r : Bool} → ¬ (q ≡ 0) → TruthOf p c T q r → EndedOf p c T q r
-ended-there p c T q n h g t x lawful kept setting d typed =
+same-expression : {o : Option RowValue} {a b : Expr} → o ≡ some (expression-is a) → o ≡ some (expression-is b) → a ≡ b
+same-expression e f = cc
+
+pub held-there : (b : Bool) (p : Table) (c : Columns) (T q : ℕ) {r : Bool} → ¬ (q ≡ 0) → TruthOf p c T q r → HeldOf b p c T q r
+held-there true p c T q n h g t x lawful kept setting d typed =
     let k = d .there n in
-    is-as (λ z. (k .0, k .1, z)) (λ z. subst (λ (y : Expr). IsTrue t y T) (same (z .1) (k .1)) (z .2))
+    is-as (λ z a i. subst (λ (y : Expr). IsTrue t y T) (same-expression (k .1) i) z) (λ f. f (k .0) (k .1))
     (h g t (k .0) lawful kept setting (k .2) (k .3) (k .4) (typed (k .0) (k .1)))
-  where
-    same : {o : Option RowValue} {a b : Expr} → o ≡ some (expression-is a) → o ≡ some (expression-is b) → a ≡ b
-    same e f = cc
+held-there false p c T q n h g t x lawful kept setting d typed =
+    let k = d .there n in
+    is-as (λ z. (k .0, k .1, z)) (λ z. subst (λ (y : Expr). IsTrue t y T) (same-expression (z .1) (k .1)) (z .2))
+    (h g t (k .0) lawful kept setting (k .2) (k .3) (k .4) (typed (k .0) (k .1)))
 
-abbrev pub EndedUpto : Table → Columns → List ℕ → ℕ → ℕ → List Bool → Type 0
-EndedUpto p c f d k m = (T : ℕ) → T < k → EndedOf p c T (getD f (d + T) 0) (marked m T)
+abbrev pub HeldUpto : Bool → Table → Columns → List ℕ → ℕ → ℕ → List Bool → Type 0
+HeldUpto b p c f d k m = (T : ℕ) → T < k → HeldOf b p c T (getD f (d + T) 0) (marked m T)
 
-abbrev pub AllEnded : Table → Columns → List ℕ → ℕ → List Bool → Type 0
-AllEnded p c f d m =
+-- the marks say of which tasks what the property asks for is true
+abbrev pub AllHeld : Bool → Table → Columns → List ℕ → ℕ → List Bool → Type 0
+AllHeld b p c f d m =
     (g : List TopLevel) (t : Engine.Table) (x : Property) (n : ℕ) → n ≤ 32 → Lawful g → Kept g t → Setting p c (viewF g t)
     → ((T : ℕ) → T < n → Condition p (getD f (d + T) 0) (t (task № T) x))
-    → ((T : ℕ) (e : Expr) → Contains t (task № T) x (expression-is e) → HasType (declared-items g) T e TruthValue) → Marks n (Ended t x) m
+    → ((T : ℕ) (e : Expr) → Contains t (task № T) x (expression-is e) → HasType (declared-items g) T e TruthValue) → Marks n (Held b t x) m
 
-pub ended-more : (p : Table) (c : Columns) (f : List ℕ) (d k : ℕ) (m : List Bool) {q : ℕ} {v : Bool} → length m ≡ 32 → k < 32 → q ≡ getD f (d + k) 0
-    → EndedOf p c k q v → EndedUpto p c f d k m → EndedUpto p c f d (k + 1) (set m k v)
-ended-more p c f d k m {q} {v} e l x h i =
-    below-more (λ (T : ℕ). EndedOf p c T (getD f (d + T) 0) (marked (set m k v) T)) k
-    (λ T j. subst (EndedOf p c T (getD f (d + T) 0)) (sym (getD-set-other m k T v false (λ z. omega arith))) (i T j))
-    (subst (EndedOf p c k (getD f (d + k) 0)) (sym (getD-set-same m k v false (omega arith))) (subst (λ (y : ℕ). EndedOf p c k y v) x h))
+abbrev pub AllAllowed : Table → Columns → List ℕ → ℕ → List Bool → Type 0
+AllAllowed = AllHeld true
 
-pub ended-all : (p : Table) (c : Columns) (f : List ℕ) (d k : ℕ) (m : List Bool) → 32 ≤ k → EndedUpto p c f d k m → AllEnded p c f d m
-ended-all p c f d k m e h g t x n l lawful kept setting held typed T j = h T (omega arith) g t x lawful kept setting (held T j) (typed T)
+abbrev pub AllEnded : Table → Columns → List ℕ → ℕ → List Bool → Type 0
+AllEnded = AllHeld false
+
+pub held-more : (b : Bool) (p : Table) (c : Columns) (f : List ℕ) (d k : ℕ) (m : List Bool) {q : ℕ} {v : Bool} → length m ≡ 32 → k < 32 → q ≡ getD f (d + k) 0
+    → HeldOf b p c k q v → HeldUpto b p c f d k m → HeldUpto b p c f d (k + 1) (set m k v)
+held-more b p c f d k m {q} {v} e l x h i =
+    below-more (λ (T : ℕ). HeldOf b p c T (getD f (d + T) 0) (marked (set m k v) T)) k
+    (λ T j. subst (HeldOf b p c T (getD f (d + T) 0)) (sym (getD-set-other m k T v false (λ z. omega arith))) (i T j))
+    (subst (HeldOf b p c k (getD f (d + k) 0)) (sym (getD-set-same m k v false (omega arith))) (subst (λ (y : ℕ). HeldOf b p c k y v) x h))
+
+pub held-all : (b : Bool) (p : Table) (c : Columns) (f : List ℕ) (d k : ℕ) (m : List Bool) → 32 ≤ k → HeldUpto b p c f d k m → AllHeld b p c f d m
+held-all b p c f d k m e h g t x n l lawful kept setting held typed T j = h T (omega arith) g t x lawful kept setting (held T j) (typed T)

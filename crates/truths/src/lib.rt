@@ -1,5 +1,10 @@
 // The expressions of tasks, by the evaluator: conditions, and assigned values.
+use limits::DataItems;
 use limits::Expression;
+use limits::Tasks;
+use state::Plan;
+use state::Property;
+use state::Values;
 use values::Scalar;
 use values::Value;
 ghost use mathlib.Core.Path.{_≡_};
@@ -8,7 +13,12 @@ ghost use Rattle.truths.specs.Part.{partOf, shownBy};
 ghost use Rattle.parts.specs.Part.{table};
 ghost use Rattle.evaluator.specs.Published.{Published};
 ghost use Rattle.paper_guideline.specs.Limits.{depth-limit};
-ghost use Rattle.truths.specs.Truth.{TruthOf, AllowedOf, AllAllowed, EndedOf, AllEnded};
+ghost use Rattle.truths.specs.Truth.{TruthOf, HeldOf, AllHeld, AllAllowed, AllEnded};
+
+// The cells of the values of all data items, and where the states of the tasks stand: the numbers of their property.
+const VALUES: usize = Values::CELLS * DataItems::LIMIT;
+
+const STATES: usize = Property::STATE as usize + Tasks::LIMIT;
 
 // The `n` cells from `a` on: what there is of them.
 pub fn part(s: &[u32], a: usize, n: usize) -> &[u32]
@@ -29,11 +39,11 @@ pub fn part(s: &[u32], a: usize, n: usize) -> &[u32]
 pub fn value_at(x: &[u32], b: &[u8], f: &[u32], s: &[u32], task: usize, end: usize) -> Value
     ensures { λ r. ⌜ Published (table (now (x .entry)) (now (b .entry))) (shownBy (now (f .entry)) (now (s .entry))) task end depth-limit r ⌝ }
 {
-    let names = part(f, 1256, parts::number(f, 1));
-    let tags = part(s, 776, 1088);
-    let nums = part(s, 1864, 1088);
-    let tasks = part(f, 1192, parts::number(f, 0));
-    let states = part(s, 40, 32);
+    let names = part(f, Plan::ITEM_NAME, parts::number(f, Plan::ITEMS));
+    let tags = part(s, Values::TAGS, VALUES);
+    let nums = part(s, Values::NUMBERS, VALUES);
+    let tasks = part(f, Plan::TASK_NAME, parts::number(f, Plan::TASKS));
+    let states = part(s, STATES, Tasks::LIMIT);
     evaluator::value_of(
         x,
         b,
@@ -68,52 +78,41 @@ fn truth_of(x: &[u32], b: &[u8], f: &[u32], s: &[u32], task: usize, end: usize) 
     is_true(values::scalar_of(v))
 }
 
-// Whether it is true, if there is one.
-fn allowed(x: &[u32], b: &[u8], f: &[u32], s: &[u32], task: usize, end: usize) -> bool
-    ensures { λ r. ⌜ AllowedOf (table (now (x .entry)) (now (b .entry))) (shownBy (now (f .entry)) (now (s .entry))) task end r ⌝ }
+// Whether it is true; `none` where there is none.
+fn held(x: &[u32], b: &[u8], f: &[u32], s: &[u32], task: usize, end: usize, none: bool) -> bool
+    ensures { λ r. ⌜ HeldOf none (table (now (x .entry)) (now (b .entry))) (shownBy (now (f .entry)) (now (s .entry))) task end r ⌝ }
 {
     if end == 0 {
-        return true;
+        return none;
     }
     truth_of(x, b, f, s, task, end)
 }
 
-// Whether there is one and it is true.
-fn ended(x: &[u32], b: &[u8], f: &[u32], s: &[u32], task: usize, end: usize) -> bool
-    ensures { λ r. ⌜ EndedOf (table (now (x .entry)) (now (b .entry))) (shownBy (now (f .entry)) (now (s .entry))) task end r ⌝ }
+// The same of every task, where `ends` is the column of `f` that says where the expressions end.
+fn all_held(x: &[u32], b: &[u8], f: &[u32], s: &[u32], ends: usize, none: bool) -> [bool; 32]
+    ensures { λ r. ⌜ AllHeld none (table (now (x .entry)) (now (b .entry))) (shownBy (now (f .entry)) (now (s .entry))) (now (f .entry)) ends r ⌝ }
 {
-    if end == 0 {
-        return false;
+    let mut m = [false; Tasks::LIMIT];
+    let mut t: usize = 0;
+    while t < Tasks::LIMIT {
+        let end = state::cell(f, ends, t);
+        let v = held(x, b, f, s, t, end, none);
+        m[t] = v;
+        t += 1;
     }
-    truth_of(x, b, f, s, task, end)
+    m
 }
 
-// `allowed` of every task, where `ends` is the column of `f` that says where the expressions end.
+// Of every task: whether the expression is true, if there is one.
 pub fn all_allowed(x: &[u32], b: &[u8], f: &[u32], s: &[u32], ends: usize) -> [bool; 32]
     ensures { λ r. ⌜ AllAllowed (table (now (x .entry)) (now (b .entry))) (shownBy (now (f .entry)) (now (s .entry))) (now (f .entry)) ends r ⌝ }
 {
-    let mut m = [false; 32];
-    let mut t: usize = 0;
-    while t < 32 {
-        let end = state::cell(f, ends, t);
-        let v = allowed(x, b, f, s, t, end);
-        m[t] = v;
-        t += 1;
-    }
-    m
+    all_held(x, b, f, s, ends, true)
 }
 
-// `ended` of every task.
+// Of every task: whether there is one and it is true.
 pub fn all_ended(x: &[u32], b: &[u8], f: &[u32], s: &[u32], ends: usize) -> [bool; 32]
     ensures { λ r. ⌜ AllEnded (table (now (x .entry)) (now (b .entry))) (shownBy (now (f .entry)) (now (s .entry))) (now (f .entry)) ends r ⌝ }
 {
-    let mut m = [false; 32];
-    let mut t: usize = 0;
-    while t < 32 {
-        let end = state::cell(f, ends, t);
-        let v = ended(x, b, f, s, t, end);
-        m[t] = v;
-        t += 1;
-    }
-    m
+    all_held(x, b, f, s, ends, false)
 }

@@ -12,7 +12,7 @@ pub struct Cell {
 // The first n of the items; the rest count for nothing.
 pub struct List {
     pub n: usize,
-    pub items: [Cell; 16],
+    pub items: [Cell; List::LIST_LIMIT],
 }
 
 impl List {
@@ -32,7 +32,7 @@ pub fn empty() -> List
     let c = Cell { s: Scalar::Unknown };
     List {
         n: 0,
-        items: [c; 16],
+        items: [c; List::LIST_LIMIT],
     }
 }
 

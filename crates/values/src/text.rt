@@ -6,6 +6,7 @@ ghost use Rattle.paper_expressions.specs.Laws.Compare.{orderT};
 ghost use Rattle.numbers.specs.Signs.{signed};
 ghost use Rattle.values.specs.Meaning.{bytesOf, handleOf, levelb};
 use numbers::Sign;
+use parts::HANDLE;
 use parts::names::letter;
 
 // Where a text stands among the lent bytes.
@@ -14,13 +15,13 @@ pub struct Handle {
     pub len: usize,
 }
 
-// A text by its number: 64 times its place in the bytes, and its length.
+// A text by its handle.
 pub fn handle_of(x: usize) -> Handle
     ensures { λ r. ⌜ r ≡ handleOf x ⌝ }
 {
     Handle {
-        at: x / 64,
-        len: x % 64,
+        at: x / HANDLE,
+        len: x % HANDLE,
     }
 }
 

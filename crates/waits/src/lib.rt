@@ -1,5 +1,9 @@
 // The tasks that a task waits for, and marks of tasks.
+use limits::Tasks;
 use state::Property;
+use state::StartAt;
+use state::State;
+use state::Tag;
 ghost use mathlib.Core.Path.{_≡_};
 ghost use mathlib.Core.Bool.{Bool, _&&_, _||_};
 ghost use Rattle.waits.specs.Twins.{endedF, timedF, marked};
@@ -27,15 +31,15 @@ pub fn either(a: bool, b: bool) -> bool
 pub fn timed(s: &[u32], t: usize) -> bool
     ensures { λ r. ⌜ r ≡ timedF (now (s .entry)) t ⌝ }
 {
-    state::cell(s, 328, t) == 4
+    state::cell(s, StartAt::TAGS, t) == Tag::TIME
 }
 
 // Whether the task is completed or discarded, and not to start again.
 pub fn ended(s: &[u32], t: usize) -> bool
     ensures { λ r. ⌜ r ≡ endedF (now (s .entry)) t ⌝ }
 {
-    let done = state::row_is(s, Property::STATE, t, 5, 4);
-    let dropped = state::row_is(s, Property::STATE, t, 5, 3);
+    let done = state::row_is(s, Property::STATE, t, Tag::STATE, State::COMPLETED);
+    let dropped = state::row_is(s, Property::STATE, t, Tag::STATE, State::DISCARDED);
     both(either(done, dropped), !timed(s, t))
 }
 
@@ -51,8 +55,8 @@ pub struct Before {
 fn noted(s: &[u32], waits: bool, a: usize, b: Before) -> Before
     ensures { λ r. ⌜ Noted (now (s .entry)) waits a b r ⌝ }
 {
-    let done = state::row_is(s, Property::STATE, a, 5, 4);
-    let dropped = state::row_is(s, Property::STATE, a, 5, 3);
+    let done = state::row_is(s, Property::STATE, a, Tag::STATE, State::COMPLETED);
+    let dropped = state::row_is(s, Property::STATE, a, Tag::STATE, State::DISCARDED);
     let free = !waits;
     let any = either(b.any, waits);
     let over = both(b.over, either(free, ended(s, a)));
@@ -66,7 +70,7 @@ fn noted(s: &[u32], waits: bool, a: usize, b: Before) -> Before
     }
 }
 
-// Of all 32.
+// Of all tasks.
 pub fn antecedents(s: &[u32], row: [bool; 32]) -> Before
     ensures { λ r. ⌜ Upto (now (s .entry)) row 32 r ⌝ }
 {
@@ -77,7 +81,7 @@ pub fn antecedents(s: &[u32], row: [bool; 32]) -> Before
         discarded: true,
     };
     let mut a: usize = 0;
-    while a < 32 {
+    while a < Tasks::LIMIT {
         b = noted(s, row[a], a, b);
         a += 1;
     }
@@ -88,7 +92,7 @@ pub fn antecedents(s: &[u32], row: [bool; 32]) -> Before
 pub fn mark(m: [bool; 32], t: usize) -> bool
     ensures { λ r. ⌜ r ≡ marked m t ⌝ }
 {
-    if t < 32 {
+    if t < Tasks::LIMIT {
         return m[t];
     }
     false

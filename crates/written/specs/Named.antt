@@ -8,7 +8,8 @@ use Rattle.paper_expressions.specs.Types.{Ty, Text, Integer, Real, SetofText, S
 use Rattle.paper_expressions.specs.Values.{Value}
 use Rattle.paper_guideline.specs.Line.{type-name, gives, answer-written, value-written}
 use Rattle.resolution.specs.Letters.{letter, same-letter}
-use Rattle.digits.specs.Appends.{Appends, append-then}
+use Rattle.digits.specs.Appends.{Appends}
+use Rattle.digits.specs.AppendsLaws.{append-then}
 
 -- f t is appended, for the type t whose letter is n
 pub record OfType (n : ℕ) (out out' : List ℕ) (o r : ℕ) (f : Ty → List ℕ) : Type 0 where

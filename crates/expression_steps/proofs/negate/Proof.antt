@@ -36,6 +36,7 @@ negate-spec =
     μ-loop
     loop-holds
     add-put
+    (λ c. search needs)
     (λ c κs. search needs) (λ c. search needs) (λ c. search needs)
     loop-again
     same-length

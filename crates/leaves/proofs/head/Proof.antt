@@ -16,4 +16,4 @@ returns-2 c =
     λ t k g l. head-known g ((c .before .before .before .before) .pre) (record { kind = (c .before .functor) .result; load = 0 }) (s .result .at) (s .result .n) (s .ensures .0) ((c .before .functor) .ensures) ((c .if1) .left) refl
 
 pub head-spec : {M : Type 1} → statement M
-head-spec = tie.close (tie.spec (λ c κs. search needs) (λ c κs. search needs) (λ c κs. search needs) returns returns-2)
+head-spec = tie.close (tie.spec (λ c κs. search needs) (λ c κs. search needs) (λ c. search needs) (λ c κs. search needs) returns returns-2)

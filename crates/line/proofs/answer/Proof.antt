@@ -8,25 +8,25 @@ use Rattle.line.proofs.answer.Statement.{statement}
 use Rattle.line.proofs.answer.Tie as tie
 
 returns : tie.Need-returns
-returns c = no-answer (length (c .before .before .before .before .before .before .before .args .out .now)) (c .before .before .before .clear .ensures) (c .before .before .before .before .before .before .before .args .line .now) (c .if1 .taken)
+returns c = no-answer (length (c .before .before .before .before .before .before .before .args .out .now)) (c .before .before .before .clear-bytes .ensures) (c .before .before .before .before .before .before .before .args .line .now) (c .if1 .taken)
 
 array-share-prefix-kinds : tie.Need-array-share-prefix-kinds
-array-share-prefix-kinds c = few (c .before .before .before .before .before .before .before .before .before .before .before .before .before .before .before .before .before .args .line .now) (c .before .before .before .before .before .before .tokens .last .1 .0) (c .before .before .before .before .before .before .tokens .last .1 .1 .0) (c .before .before .before .before .before .before .tokens .last .1 .1 .1 .0) (c .before .before .before .before .before .before .tokens .ensures) (c .before .n2 .given .1)
+array-share-prefix-kinds c = few (c .before .before .before .before .before .before .before .before .before .before .before .before .before .before .before .before .before .args .line .now) (c .before .before .before .before .before .before .into-blank .last .1 .0) (c .before .before .before .before .before .before .into-blank .last .1 .1 .0) (c .before .before .before .before .before .before .into-blank .last .1 .1 .1 .0) (c .before .before .before .before .before .before .into-blank .ensures) (c .before .n2 .given .1)
 
 slice-aggregate-tested : tie.Need-slice-aggregate-tested
-slice-aggregate-tested c = cut (c .before .before .before .before .before .before .before .before .before .before .before .before .before .before .before .before .before .before .args .line .now) (c .before .before .before .before .before .before .before .tokens .last .1 .0) (c .before .before .before .before .before .before .before .tokens .last .1 .1 .0) (c .before .before .before .before .before .before .before .tokens .last .1 .1 .1 .0) (c .before .before .before .before .before .before .before .tokens .ensures) (c .before .before .n2 .given .1)
+slice-aggregate-tested c = cut (c .before .before .before .before .before .before .before .before .before .before .before .before .before .before .before .before .before .before .args .line .now) (c .before .before .before .before .before .before .before .into-blank .last .1 .0) (c .before .before .before .before .before .before .before .into-blank .last .1 .1 .0) (c .before .before .before .before .before .before .before .into-blank .last .1 .1 .1 .0) (c .before .before .before .before .before .before .before .into-blank .ensures) (c .before .before .n2 .given .1)
 
 tested-requires : tie.Need-tested-requires
-tested-requires c κs = (read (c .before .before .before .before .before .before .before .before .before .before .before .before .before .before .before .before .before .before .before .before .before .args .line .now) (c .before .before .before .before .before .before .before .before .before .before .tokens .last .1 .0) (c .before .before .before .before .before .before .before .before .before .before .tokens .last .1 .1 .0) (c .before .before .before .before .before .before .before .before .before .before .tokens .last .1 .1 .1 .0) (c .before .before .before .before .before .before .before .before .before .before .tokens .ensures) (c .before .before .before .before .before .n2 .given .1), are-blank (length (c .before .before .before .before .before .before .before .before .before .before .before .before .before .before .before .before .before .before .before .before .before .args .out .now)) (c .before .before .before .before .before .before .before .before .before .before .before .before .before .before .before .before .before .clear .ensures) (c .before .before .before .before .before .before .before .before .before .before .before .before .before .before .if1 .left))
+tested-requires c κs = (read (c .before .before .before .before .before .before .before .before .before .before .before .before .before .before .before .before .before .before .before .before .before .args .line .now) (c .before .before .before .before .before .before .before .before .before .before .into-blank .last .1 .0) (c .before .before .before .before .before .before .before .before .before .before .into-blank .last .1 .1 .0) (c .before .before .before .before .before .before .before .before .before .before .into-blank .last .1 .1 .1 .0) (c .before .before .before .before .before .before .before .before .before .before .into-blank .ensures) (c .before .before .before .before .before .n2 .given .1), are-blank (length (c .before .before .before .before .before .before .before .before .before .before .before .before .before .before .before .before .before .before .before .before .before .args .out .now)) (c .before .before .before .before .before .before .before .before .before .before .before .before .before .before .before .before .before .clear-bytes .ensures) (c .before .before .before .before .before .before .before .before .before .before .before .before .before .before .if1 .left))
 
 returns-2 : tie.Need-returns-2
-returns-2 c = absurd (not-short (c .before .before .before .before .before .before .before .before .before .before .before .before .before .before .before .before .args .line .now) (c .before .before .before .before .before .tokens .last .1 .0) (c .before .before .before .before .before .tokens .last .1 .1 .0) (c .before .before .before .before .before .tokens .last .1 .1 .1 .0) (c .before .before .before .before .before .tokens .ensures) (c .enum-told .given .1))
+returns-2 c = absurd (not-short (c .before .before .before .before .before .before .before .before .before .before .before .before .before .before .before .before .args .line .now) (c .before .before .before .before .before .into-blank .last .1 .0) (c .before .before .before .before .before .into-blank .last .1 .1 .0) (c .before .before .before .before .before .into-blank .last .1 .1 .1 .0) (c .before .before .before .before .before .into-blank .ensures) (c .enum-told .given .1))
 
 returns-3 : tie.Need-returns-3
-returns-3 c = an-answer (length (c .before .before .before .before .before .before .before .before .before .before .before .before .before .before .before .before .before .before .before .before .before .args .out .now)) (c .before .before .before .before .before .before .before .before .before .before .before .before .before .before .before .before .before .clear .ensures) (c .before .before .before .before .before .before .before .before .before .before .before .before .before .before .if1 .left) (refuses (are-blank (length (c .before .before .before .before .before .before .before .before .before .before .before .before .before .before .before .before .before .before .before .before .before .args .out .now)) (c .before .before .before .before .before .before .before .before .before .before .before .before .before .before .before .before .before .clear .ensures) (c .before .before .before .before .before .before .before .before .before .before .before .before .before .before .if1 .left)) (early (c .before .before .before .before .before .before .before .before .before .before .before .before .before .before .before .before .before .before .before .before .before .args .line .now) (c .before .before .before .before .before .before .before .before .before .before .tokens .last .1 .0) (c .before .before .before .before .before .before .before .before .before .before .tokens .last .1 .1 .0) (c .before .before .before .before .before .before .before .before .before .before .tokens .last .1 .1 .1 .0) (c .before .before .before .before .before .before .before .before .before .before .tokens .ensures) (c .before .before .before .before .before .n .given .1)) (c .before .before .refused .ensures))
+returns-3 c = an-answer (length (c .before .before .before .before .before .before .before .before .before .before .before .before .before .before .before .before .before .before .before .before .before .args .out .now)) (c .before .before .before .before .before .before .before .before .before .before .before .before .before .before .before .before .before .clear-bytes .ensures) (c .before .before .before .before .before .before .before .before .before .before .before .before .before .before .if1 .left) (refuses (are-blank (length (c .before .before .before .before .before .before .before .before .before .before .before .before .before .before .before .before .before .before .before .before .before .args .out .now)) (c .before .before .before .before .before .before .before .before .before .before .before .before .before .before .before .before .before .clear-bytes .ensures) (c .before .before .before .before .before .before .before .before .before .before .before .before .before .before .if1 .left)) (early (c .before .before .before .before .before .before .before .before .before .before .before .before .before .before .before .before .before .before .before .before .before .args .line .now) (c .before .before .before .before .before .before .before .before .before .before .into-blank .last .1 .0) (c .before .before .before .before .before .before .before .before .before .before .into-blank .last .1 .1 .0) (c .before .before .before .before .before .before .before .before .before .before .into-blank .last .1 .1 .1 .0) (c .before .before .before .before .before .before .before .before .before .before .into-blank .ensures) (c .before .before .before .before .before .n .given .1)) (c .before .before .refused .ensures))
 
 returns-4 : tie.Need-returns-4
-returns-4 c = an-answer (length (c .before .before .before .before .before .before .before .before .before .before .before .before .before .before .before .before .before .before .before .before .before .before .before .before .args .out .now)) (c .before .before .before .before .before .before .before .before .before .before .before .before .before .before .before .before .before .before .before .before .clear .ensures) (c .before .before .before .before .before .before .before .before .before .before .before .before .before .before .before .before .before .if1 .left) (c .before .before .tested .ensures)
+returns-4 c = an-answer (length (c .before .before .before .before .before .before .before .before .before .before .before .before .before .before .before .before .before .before .before .before .before .before .before .before .args .out .now)) (c .before .before .before .before .before .before .before .before .before .before .before .before .before .before .before .before .before .before .before .before .clear-bytes .ensures) (c .before .before .before .before .before .before .before .before .before .before .before .before .before .before .before .before .before .if1 .left) (c .before .before .tested .ensures)
 
 pub answer-spec : {M : Type 1} → statement M
 answer-spec =

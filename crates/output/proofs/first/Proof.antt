@@ -2,7 +2,7 @@
 use native.Mathlib.Omega.{arith}
 use lib.ListN.{length-take}
 use lib.Seq.{take-all}
-use Rattle.digits.specs.Appends.{appends-as}
+use Rattle.digits.specs.AppendsLaws.{appends-as}
 use borrow.Author.Needs.{needs}
 use Rattle.output.proofs.first.Statement.{statement}
 use Rattle.output.proofs.first.Tie as tie

@@ -4,7 +4,8 @@ use Prim.Native.Nat.{ℕ, _+_, _-_, _≤_}
 use native.Mathlib.Omega.{arith}
 use lib.ListN.{length, length-set}
 use Rattle.parts.specs.Texts.{cells}
-use Rattle.pool.specs.Written.{Written, written-none}
+use Rattle.pool.specs.Written.{Written}
+use Rattle.pool.specs.WrittenLaws.{written-none}
 use Rattle.pool.specs.Columns.{copied-more}
 use borrow.Author.Needs.{needs}
 use Rattle.pool.proofs.copy.Statement.{statement}

@@ -6,19 +6,19 @@ use Rattle.reading.proofs.lexed.Statement.{statement}
 use Rattle.reading.proofs.lexed.Tie as tie
 
 array-share-prefix-kinds : tie.Need-array-share-prefix-kinds
-array-share-prefix-kinds c = few (c .before .before .before .before .before .before .before .before .before .before .before .before .before .before .args .text .now) (c .before .before .before .before .before .before .tokens .last .1 .0) (c .before .before .before .before .before .before .tokens .last .1 .1 .0) (c .before .before .before .before .before .before .tokens .last .1 .1 .1 .0) (c .before .before .before .before .before .before .tokens .ensures) (c .before .n2 .given .1)
+array-share-prefix-kinds c = few (c .before .before .before .before .before .before .before .before .before .before .before .before .before .before .args .text .now) (c .before .before .before .before .before .before .into-blank .last .1 .0) (c .before .before .before .before .before .before .into-blank .last .1 .1 .0) (c .before .before .before .before .before .before .into-blank .last .1 .1 .1 .0) (c .before .before .before .before .before .before .into-blank .ensures) (c .before .n2 .given .1)
 
 slice-aggregate-structured : tie.Need-slice-aggregate-structured
-slice-aggregate-structured c = cut (c .before .before .before .before .before .before .before .before .before .before .before .before .before .before .before .args .text .now) (c .before .before .before .before .before .before .before .tokens .last .1 .0) (c .before .before .before .before .before .before .before .tokens .last .1 .1 .0) (c .before .before .before .before .before .before .before .tokens .last .1 .1 .1 .0) (c .before .before .before .before .before .before .before .tokens .ensures) (c .before .before .n2 .given .1)
+slice-aggregate-structured c = cut (c .before .before .before .before .before .before .before .before .before .before .before .before .before .before .before .args .text .now) (c .before .before .before .before .before .before .before .into-blank .last .1 .0) (c .before .before .before .before .before .before .before .into-blank .last .1 .1 .0) (c .before .before .before .before .before .before .before .into-blank .last .1 .1 .1 .0) (c .before .before .before .before .before .before .before .into-blank .ensures) (c .before .before .n2 .given .1)
 
 returns : tie.Need-returns
-returns c = no-columns (c .before .before .before .before .before .before .before .before .before .before .before .before .before .args .text .now) (c .before .before .before .before .before .tokens .last .1 .0) (c .before .before .before .before .before .tokens .last .1 .1 .0) (c .before .before .before .before .before .tokens .last .1 .1 .1 .0) (c .before .before .before .before .before .tokens .ensures) (c .enum-told .given .1)
+returns c = no-columns (c .before .before .before .before .before .before .before .before .before .before .before .before .before .args .text .now) (c .before .before .before .before .before .into-blank .last .1 .0) (c .before .before .before .before .before .into-blank .last .1 .1 .0) (c .before .before .before .before .before .into-blank .last .1 .1 .1 .0) (c .before .before .before .before .before .into-blank .ensures) (c .enum-told .given .1)
 
 returns-2 : tie.Need-returns-2
-returns-2 c = turning (c .before .before .before .before .before .before .before .before .before .before .before .before .before .before .args .text .now) (c .before .before .before .before .before .before .tokens .last .1 .0) (c .before .before .before .before .before .before .tokens .last .1 .1 .0) (c .before .before .before .before .before .before .tokens .last .1 .1 .1 .0) (c .before .before .before .before .before .before .tokens .ensures) (c .before .n .given .1)
+returns-2 c = turning (c .before .before .before .before .before .before .before .before .before .before .before .before .before .before .args .text .now) (c .before .before .before .before .before .before .into-blank .last .1 .0) (c .before .before .before .before .before .before .into-blank .last .1 .1 .0) (c .before .before .before .before .before .before .into-blank .last .1 .1 .1 .0) (c .before .before .before .before .before .before .into-blank .ensures) (c .before .n .given .1)
 
 returns-3 : tie.Need-returns-3
-returns-3 c = going (c .before .before .before .before .before .before .before .before .before .before .before .before .before .before .before .before .before .before .before .before .before .before .before .before .before .before .before .args .text .now) (c .before .before .before .before .before .before .before .before .before .before .before .before .before .before .before .before .before .before .before .tokens .last .1 .0) (c .before .before .before .before .before .before .before .before .before .before .before .before .before .before .before .before .before .before .before .tokens .last .1 .1 .0) (c .before .before .before .before .before .before .before .before .before .before .before .before .before .before .before .before .before .before .before .tokens .last .1 .1 .1 .0) (c .before .before .before .before .before .before .before .before .before .before .before .before .before .before .before .before .before .before .before .tokens .ensures) (c .before .before .before .before .before .before .before .before .before .before .before .before .before .before .n2 .given .1) (c .before .before .before .before .before .before .structured .ensures)
+returns-3 c = going (c .before .before .before .before .before .before .before .before .before .before .before .before .before .before .before .before .before .before .before .before .before .before .before .before .before .before .before .args .text .now) (c .before .before .before .before .before .before .before .before .before .before .before .before .before .before .before .before .before .before .before .into-blank .last .1 .0) (c .before .before .before .before .before .before .before .before .before .before .before .before .before .before .before .before .before .before .before .into-blank .last .1 .1 .0) (c .before .before .before .before .before .before .before .before .before .before .before .before .before .before .before .before .before .before .before .into-blank .last .1 .1 .1 .0) (c .before .before .before .before .before .before .before .before .before .before .before .before .before .before .before .before .before .before .before .into-blank .ensures) (c .before .before .before .before .before .before .before .before .before .before .before .before .before .before .n2 .given .1) (c .before .before .before .before .before .before .structured .ensures)
 
 pub lexed-spec : {M : Type 1} → statement M
 lexed-spec =

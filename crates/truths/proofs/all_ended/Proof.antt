@@ -1,44 +1,10 @@
--- `all_ended`: by the tasks passed.
-use Prim.Native.Nat.{_≤_, _-_, _+_}
-use mathlib.Core.Path.{_≡_, refl}
-use native.Mathlib.Omega.{arith}
-use native.Mathlib.Nat.{not-suc-le-zero}
-use lib.ListN.{length}
-use Rattle.parts.specs.Part.{table}
-use Rattle.truths.specs.Part.{shownBy}
-use Rattle.truths.specs.Truth.{EndedUpto, ended-more, ended-all}
+-- `all_ended`: what `all_held` says of it.
 use borrow.Author.Needs.{needs}
 use Rattle.truths.proofs.all_ended.Statement.{statement}
 use Rattle.truths.proofs.all_ended.Tie as tie
 
-abbrev Inv-loop : tie.InvT-loop
-Inv-loop x b f s ends m₀ t₀ m t = (t ≤ 32) × (length m ≡ 32) × EndedUpto (table x b) (shownBy f s) f ends t m
-
-abbrev μ-loop : tie.MeasureT-loop
-μ-loop x b f s ends m₀ t₀ m t = 32 - t
-
-loop-holds : tie.Need-loop-holds Inv-loop μ-loop
-loop-holds c = (omega arith, refl, λ T l. absurd (not-suc-le-zero l))
-
-loop-again : tie.Need-loop-again Inv-loop μ-loop
-loop-again c =
-    let a = c .before .before .before .before .before .before .before .before .args in
-    let lp = c .before .before .before .loop in
-    (omega arith, search needs, ended-more (table (a .x .now) (a .b .now)) (shownBy (a .f .now) (a .s .now)) (a .f .now) (a .ends) (lp .t) (lp .m) (lp .inv .1) (omega arith) (c .before .cell .ensures) (c .ended .ensures) (lp .inv .2))
-
-returns : tie.Need-returns Inv-loop μ-loop
-returns c =
-    let a = c .before .before .before .before .before .before .args in
-    let lp = c .before .loop in
-    ended-all (table (a .x .now) (a .b .now)) (shownBy (a .f .now) (a .s .now)) (a .f .now) (a .ends) (lp .t) (lp .m) (omega arith) (lp .inv .2)
+returns : tie.Need-returns
+returns c = c .all-held .ensures
 
 pub all-ended-spec : {M : Type 1} → statement M
-all-ended-spec =
-    tie.close
-    (tie.spec
-    Inv-loop
-    μ-loop
-    loop-holds
-    (λ c κs. search needs) (λ c κs. search needs) (λ c. search needs) (λ c. search needs) (λ c. search needs)
-    loop-again
-    returns)
+all-ended-spec = tie.close (tie.spec (λ c κs. search needs) returns)

@@ -1,6 +1,6 @@
 -- `byte`: one store where there is room, and else none.
 use borrow.Author.Needs.{needs}
-use Rattle.digits.specs.Appends.{append-byte, no-room}
+use Rattle.digits.specs.AppendsLaws.{append-byte, no-room}
 use Rattle.digits.proofs.append.byte.Statement.{statement}
 use Rattle.digits.proofs.append.byte.Tie as tie
 

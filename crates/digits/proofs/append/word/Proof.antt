@@ -4,7 +4,8 @@ use native.Mathlib.Numerals.{add-one}
 use lib.ListN.{length, take}
 use lib.Seq.{take-suc, take-all}
 use borrow.Author.Needs.{needs}
-use Rattle.digits.specs.Appends.{Appends, append-nothing, append-then}
+use Rattle.digits.specs.Appends.{Appends}
+use Rattle.digits.specs.AppendsLaws.{append-nothing, append-then}
 use Rattle.digits.proofs.append.word.Statement.{statement}
 use Rattle.digits.proofs.append.word.Tie as tie
 use Rattle.digits.proofs.append.word.Reads as reads

@@ -1,6 +1,6 @@
 -- `number`: below ten one digit, else the digits of the tenth and the last. The measure is the number.
 use Prim.Native.Nat.{ℕ, _<_, _^_}
-use Rattle.digits.specs.Appends.{appends-as, append-then}
+use Rattle.digits.specs.AppendsLaws.{appends-as, append-then}
 use Rattle.digits.specs.Digits.{one-digit, more-digits}
 use borrow.Author.Needs.{needs}
 use borrow.Fn.Kinds.{In}

@@ -1,5 +1,5 @@
 -- `thousandths`: one thing after another.
-use Rattle.digits.specs.Appends.{append-then}
+use Rattle.digits.specs.AppendsLaws.{append-then}
 use borrow.Author.Needs.{needs}
 use Rattle.digits.proofs.decimal.thousandths.Statement.{statement}
 use Rattle.digits.proofs.decimal.thousandths.Tie as tie

@@ -1,6 +1,6 @@
 -- `integer`: the sign, and then the magnitude.
 use Rattle.paper_guideline.specs.Line.{digits-of}
-use Rattle.digits.specs.Appends.{append-then, appends-as}
+use Rattle.digits.specs.AppendsLaws.{append-then, appends-as}
 use Rattle.digits.specs.Signed.{sign-first}
 use borrow.Author.Needs.{needs}
 use Rattle.digits.proofs.signed.integer.Statement.{statement}

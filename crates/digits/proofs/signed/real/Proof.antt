@@ -1,6 +1,6 @@
 -- `real`: the sign, and then the magnitude.
 use Rattle.paper_guideline.specs.Line.{with-point}
-use Rattle.digits.specs.Appends.{append-then, appends-as}
+use Rattle.digits.specs.AppendsLaws.{append-then, appends-as}
 use Rattle.digits.specs.Signed.{sign-first}
 use borrow.Author.Needs.{needs}
 use Rattle.digits.proofs.signed.real.Statement.{statement}

@@ -3,7 +3,7 @@ use mathlib.Core.Path.{sym, ap, _∙_}
 use mir.Syntax.{w64}
 use mir.Val.{SFits}
 use mir.Facts.{toZ-ofZ}
-use Rattle.digits.specs.Appends.{append-nothing, appends-as}
+use Rattle.digits.specs.AppendsLaws.{append-nothing, appends-as}
 use Rattle.digits.specs.Signed.{sign-of}
 use Rattle.digits.proofs.Z.{fits, minus, no-minus}
 use borrow.Author.Needs.{needs}

@@ -2,6 +2,7 @@
 use mathlib.Core.Path.{sym, ap}
 use borrow.Author.Tests.{ne-eqb}
 use Rattle.expression_steps.specs.Levels.{codeOf}
+use borrow.Author.Needs.{needs}
 use Rattle.expression_steps.proofs.operators.number.Statement.{statement}
 use Rattle.expression_steps.proofs.operators.number.Tie as tie
 
@@ -14,6 +15,11 @@ pub number-spec : {M : Type 1} → statement M
 number-spec =
     tie.close
     (tie.spec
+    (λ c. search needs) (λ c. search needs) (λ c. search needs) (λ c. search needs)
+    (λ c. search needs) (λ c. search needs) (λ c. search needs) (λ c. search needs)
+    (λ c. search needs) (λ c. search needs) (λ c. search needs) (λ c. search needs)
+    (λ c. search needs) (λ c. search needs) (λ c. search needs) (λ c. search needs)
+    (λ c. search needs) (λ c. search needs) (λ c. search needs)
     (λ c. ap codeOf (sym (c .match .keys1))) (λ c. ap codeOf (sym (c .match .keys2))) (λ c. ap codeOf (sym (c .match .keys3))) (λ c. ap codeOf (sym (c .match .keys4)))
     (λ c. ap codeOf (sym (c .match .keys5))) (λ c. ap codeOf (sym (c .match .keys6))) (λ c. ap codeOf (sym (c .match .keys7))) (λ c. ap codeOf (sym (c .match .keys8)))
     (λ c. ap codeOf (sym (c .match .keys9))) (λ c. ap codeOf (sym (c .match .keys10))) (λ c. ap codeOf (sym (c .match .keys11))) (λ c. ap codeOf (sym (c .match .keys12)))

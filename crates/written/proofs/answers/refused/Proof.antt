@@ -1,5 +1,5 @@
 -- `refused`: the word, and the number.
-use Rattle.digits.specs.Appends.{append-then}
+use Rattle.digits.specs.AppendsLaws.{append-then}
 use borrow.Author.Needs.{needs}
 use Rattle.written.proofs.answers.refused.Statement.{statement}
 use Rattle.written.proofs.answers.refused.Tie as tie

@@ -1,5 +1,5 @@
 -- `element`: two bytes, and the scalar that was read.
-use Rattle.digits.specs.Appends.{append-then}
+use Rattle.digits.specs.AppendsLaws.{append-then}
 use borrow.Author.Needs.{needs}
 use Rattle.written.proofs.lists.element.Statement.{statement}
 use Rattle.written.proofs.lists.element.Tie as tie

@@ -2,7 +2,7 @@
 use Prim.Native.Nat.{_<_}
 use native.Mathlib.Omega.{arith}
 use Rattle.values.specs.Meaning.{sizeOf}
-use Rattle.digits.specs.Appends.{append-then, appends-as}
+use Rattle.digits.specs.AppendsLaws.{append-then, appends-as}
 use Rattle.written.specs.Lists.{list-none, list-some}
 use borrow.Author.Needs.{needs}
 use Rattle.written.proofs.lists.list.Statement.{statement}

@@ -6,7 +6,7 @@ use lib.ListN.{drop, length}
 use Rattle.paper_expressions.specs.Limits.{list-limit}
 use Rattle.paper_guideline.specs.Line.{more-written}
 use Rattle.values.specs.Meaning.{meaningL, sizeOf}
-use Rattle.digits.specs.Appends.{Begun, begun-none, begun-more, begun-all}
+use Rattle.digits.specs.AppendsLaws.{Begun, begun-none, begun-more, begun-all}
 use Rattle.written.specs.Lists.{more-step, more-end}
 use borrow.Author.Needs.{needs}
 use Rattle.written.proofs.lists.more.Statement.{statement}

@@ -3,7 +3,7 @@ use mathlib.Core.Path.{ap}
 use mathlib.Core.Bool.{Bool}
 use Rattle.paper_guideline.specs.Line.{value-written}
 use Rattle.values.specs.Meaning.{valued, meaning, meaningL}
-use Rattle.digits.specs.Appends.{appends-as}
+use Rattle.digits.specs.AppendsLaws.{appends-as}
 use borrow.Author.Needs.{needs}
 use Rattle.written.proofs.lists.value.Statement.{statement}
 use Rattle.written.proofs.lists.value.Tie as tie

@@ -5,7 +5,8 @@ use Prim.Native.Nat.{ℕ}
 use Rattle.paper_guideline.specs.Line.{scalar-written}
 use Rattle.values.specs.Meaning.{meaning}
 use Rattle.values.specs.declared.scalar.Scalar.{Scalar}
-use Rattle.digits.specs.Appends.{Appends, appends-as}
+use Rattle.digits.specs.Appends.{Appends}
+use Rattle.digits.specs.AppendsLaws.{appends-as}
 use borrow.Author.Needs.{needs}
 use Rattle.written.proofs.scalars.scalar.Statement.{statement}
 use Rattle.written.proofs.scalars.scalar.Tie as tie

@@ -5,7 +5,8 @@ use mathlib.Core.List.{List}
 use native.Mathlib.Omega.{arith}
 use Rattle.parts.specs.Texts.{cells}
 use Rattle.values.specs.Meaning.{bytesOf}
-use Rattle.digits.specs.Appends.{Appends, Begun, begun-none, begun-more, begun-all, append-nothing}
+use Rattle.digits.specs.Appends.{Appends}
+use Rattle.digits.specs.AppendsLaws.{Begun, begun-none, begun-more, begun-all, append-nothing}
 use Rattle.written.specs.Texts.{none-left, one-less}
 use borrow.Author.Needs.{needs}
 use Rattle.written.proofs.scalars.text.Statement.{statement}

@@ -3,7 +3,7 @@ use mathlib.Core.Path.{ap}
 use mathlib.Core.Bool.{Bool}
 use Rattle.paper_expressions.specs.Values as paper
 use Rattle.paper_guideline.specs.Line.{scalar-written}
-use Rattle.digits.specs.Appends.{appends-as}
+use Rattle.digits.specs.AppendsLaws.{appends-as}
 use borrow.Author.Needs.{needs}
 use Rattle.written.proofs.scalars.truth.Statement.{statement}
 use Rattle.written.proofs.scalars.truth.Tie as tie
