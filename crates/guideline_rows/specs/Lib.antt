@@ -12,3 +12,6 @@ pub mod EncodedLaws
 pub mod OneEncoding
 pub mod Room
 pub mod WorkedTexts
+pub mod InLimits
+pub mod LimitLaws
+pub mod RowLaws

@@ -18,62 +18,10 @@ use Structure.{Outermost, Placed, Assignment, ComponentAttribute, schedule-const
 use Structure.{Attribute, generic, precondition, wait-condition, terminate, postcondition, trigger, component, source, Class, plan, action, enquiry, class-word, TopLevel, task, data-item, tasks, data-items}
 use Rattle.paper_guideline.specs.Limits.{part-limit, depth-limit, parts, depth, longest-list}
 use Rattle.paper_guideline.specs.Refusals.{Read, Breach, limit-stage, total-parts, too-deep, long-list, many-parts}
-use Rattle.paper_guideline.specs.Parts.{Role, condition, wording, assigned-to, Typed, expressions, assignments, Source, sources}
+use Rattle.paper_guideline.specs.Parts.{assigned-to, Typed, each, typed, of-generic, of-source, of-attribute, expressions, expressions-from, assigned-in, assignments, source-in, Source, sources}
 use Rattle.guideline_rows.specs.Rows
 use Rows.{Row, kind-of, expression-of, an-assignment, generic-row, component-row, source-row, placed-rows, attribute-rows, attributes-rows, flatten}
 use Rattle.guideline_rows.specs.Tally.{of-kind, with, row-expressions, parts-in, Large, LargeAt, here, later}
-
--- ---- as the definitions of a guideline's parts have them
-
-abbrev each : {A B : Type 0} → (A → List B) → List A → List B
-each f [] = []
-each f (a ∷ l) = f a ++ each f l
-
-abbrev typed : ℕ → Role → Outermost → List Typed
-typed t r x = record { expression = x; role = r; attached = t } ∷ []
-
-abbrev of-generic : ℕ → Generic → List Typed
-of-generic t (caption x) = typed t wording x
-of-generic t (description x) = typed t wording x
-
-abbrev of-source : ℕ → SourceAttribute → List Typed
-of-source t (source-generic g) = of-generic t g
-of-source t (mandatory b) = []
-
-abbrev of-attribute : ℕ → Attribute → List Typed
-of-attribute t (generic g) = of-generic t g
-of-attribute t (precondition x) = typed t condition x
-of-attribute t (wait-condition x) = typed t condition x
-of-attribute t (terminate x) = typed t condition x
-of-attribute t (postcondition xs) = each (λ (a : Assignment). typed t (assigned-to (a .target)) (a .value)) xs
-of-attribute t (trigger n) = []
-of-attribute t (component n xs) = []
-of-attribute t (source n xs) = each (λ (a : Placed SourceAttribute). of-source t (a .what)) xs
-
-abbrev expressions-from : ℕ → List TopLevel → List Typed
-expressions-from t [] = []
-expressions-from t (task k ∷ g) = each (λ (a : Placed Attribute). of-attribute t (a .what)) (k .attributes) ++ expressions-from (suc t) g
-expressions-from t (data-item d ∷ g) = each (λ (a : Placed Generic). of-generic 0 (a .what)) (d .attributes) ++ expressions-from t g
-
-abbrev assigned-in : Attribute → List Assignment
-assigned-in (generic g) = []
-assigned-in (precondition x) = []
-assigned-in (wait-condition x) = []
-assigned-in (terminate x) = []
-assigned-in (postcondition xs) = xs
-assigned-in (trigger n) = []
-assigned-in (component n xs) = []
-assigned-in (source n xs) = []
-
-abbrev source-in : Attribute → List Source
-source-in (generic g) = []
-source-in (precondition x) = []
-source-in (wait-condition x) = []
-source-in (terminate x) = []
-source-in (postcondition xs) = []
-source-in (trigger n) = []
-source-in (component n xs) = []
-source-in (source n xs) = record { named = n; attributes = xs } ∷ []
 
 -- ---- rows of a kind
 

@@ -1,6 +1,10 @@
 // What single tokens of a line say: the name that an atom is, yes or no, and the name of a type.
+mod row;
+
 use leaves::names::Span;
 use parts::byte;
+pub use row::Kind;
+pub use row::Row;
 ghost use mathlib.Core.Path.{_≡_};
 ghost use Prim.Native.Nat.{_+_, _≤_};
 ghost use lib.ListN.{length, getD};

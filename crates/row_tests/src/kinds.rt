@@ -1,4 +1,5 @@
 // What the kind of a row tells: the number of its word's terminal.
+use guideline_rows::Kind;
 ghost use mathlib.Core.Path.{_≡_};
 ghost use Rattle.row_names.specs.Sheet.{task-kind, head-kind, once as onceOf, inner as innerOf, parts-from};
 
@@ -7,9 +8,9 @@ pub fn is_task(k: usize) -> bool
     ensures { λ r. ⌜ r ≡ task-kind k ⌝ }
 {
     match k {
-        49 => true,
-        1 => true,
-        26 => true,
+        Kind::PLAN => true,
+        Kind::ACTION => true,
+        Kind::ENQUIRY => true,
         _ => false,
     }
 }
@@ -19,10 +20,10 @@ pub fn is_head(k: usize) -> bool
     ensures { λ r. ⌜ r ≡ head-kind k ⌝ }
 {
     match k {
-        49 => true,
-        1 => true,
-        26 => true,
-        18 => true,
+        Kind::PLAN => true,
+        Kind::ACTION => true,
+        Kind::ENQUIRY => true,
+        Kind::DATA => true,
         _ => false,
     }
 }
@@ -32,15 +33,15 @@ pub fn once(k: usize) -> bool
     ensures { λ r. ⌜ r ≡ onceOf k ⌝ }
 {
     match k {
-        10 => true,
-        23 => true,
-        51 => true,
-        70 => true,
-        50 => true,
-        65 => true,
-        66 => true,
-        64 => true,
-        35 => true,
+        Kind::CAPTION => true,
+        Kind::DESCRIPTION => true,
+        Kind::PRECONDITION => true,
+        Kind::WAIT_CONDITION => true,
+        Kind::POSTCONDITION => true,
+        Kind::TERMINATE => true,
+        Kind::TRIGGER => true,
+        Kind::TERMINAL => true,
+        Kind::MANDATORY => true,
         _ => false,
     }
 }
@@ -50,10 +51,10 @@ fn inner(k: usize) -> bool
     ensures { λ r. ⌜ r ≡ innerOf k ⌝ }
 {
     match k {
-        10 => true,
-        23 => true,
-        64 => true,
-        35 => true,
+        Kind::CAPTION => true,
+        Kind::DESCRIPTION => true,
+        Kind::TERMINAL => true,
+        Kind::MANDATORY => true,
         _ => false,
     }
 }
@@ -63,12 +64,12 @@ pub fn parts(k: usize, m: usize) -> bool
     ensures { λ r. ⌜ r ≡ parts-from k m ⌝ }
 {
     match m {
-        49 => true,
-        1 => true,
-        26 => true,
-        18 => true,
-        13 => inner(k),
-        60 => inner(k),
+        Kind::PLAN => true,
+        Kind::ACTION => true,
+        Kind::ENQUIRY => true,
+        Kind::DATA => true,
+        Kind::COMPONENT => inner(k),
+        Kind::SOURCE => inner(k),
         _ => false,
     }
 }

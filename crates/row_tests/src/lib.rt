@@ -2,6 +2,7 @@
 // Nothing is asked of the table: on any contents the searches end and do nothing undefined.
 pub mod cells;
 pub mod kinds;
+pub mod least;
 pub mod search;
 pub mod texts;
 

@@ -4,17 +4,16 @@ use super::cells::kind;
 use super::kinds::is_head;
 use super::kinds::parts;
 use super::texts::same;
+use guideline_rows::Kind;
 ghost use mathlib.Core.Path.{_≡_};
 ghost use Rattle.row_tests.specs.Table.{component-named};
 ghost use Rattle.row_tests.specs.Searched.{Some, Again, Nearest, Start, Finish};
-
-const COMPONENT: usize = 13;
 
 // Whether the row `i` is a component with the name `h`.
 fn is_named(rows: &[u32], bytes: &[u8], h: usize, i: usize) -> bool
     ensures { λ r. ⌜ r ≡ component-named (now (rows .entry)) (now (bytes .entry)) h i ⌝ }
 {
-    if kind(rows, i) != COMPONENT {
+    if kind(rows, i) != Kind::COMPONENT {
         return false;
     }
     same(bytes, handle(rows, i), h)
@@ -60,7 +59,7 @@ pub fn owner(rows: &[u32], j: usize) -> usize
     let mut i = j;
     while 0 < i {
         i -= 1;
-        if kind(rows, i) == COMPONENT {
+        if kind(rows, i) == Kind::COMPONENT {
             return i;
         }
     }

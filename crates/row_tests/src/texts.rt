@@ -1,4 +1,5 @@
 // Whether two texts are equal, byte by byte.
+use parts::HANDLE;
 use parts::byte;
 ghost use mathlib.Core.Path.{_≡_};
 ghost use Rattle.paper_expressions.specs.Laws.Search.{sameb};
@@ -7,12 +8,12 @@ ghost use Rattle.parts.specs.Texts.{textAt};
 pub fn same(bytes: &[u8], g: usize, h: usize) -> bool
     ensures { λ r. ⌜ r ≡ sameb (textAt (now (bytes .entry)) g) (textAt (now (bytes .entry)) h) ⌝ }
 {
-    let n = g % 64;
-    if n != h % 64 {
+    let n = g % HANDLE;
+    if n != h % HANDLE {
         return false;
     }
-    let mut x = g / 64;
-    let mut y = h / 64;
+    let mut x = g / HANDLE;
+    let mut y = h / HANDLE;
     let mut m = n;
     while 0 < m {
         if byte(bytes, x) != byte(bytes, y) {

@@ -4,3 +4,4 @@ pub mod Compound
 pub mod Leaves
 pub mod Typed
 pub mod Fitting
+pub mod FittingLaws

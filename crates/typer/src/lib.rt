@@ -88,7 +88,7 @@ pub fn type_of(
     compound(kind, n, s)
 }
 
-// Whether the expression of a task whose parts end before `end` has a type that fits its role.
+// Whether the expression of a task whose parts end before `end` has a type that fits its role: document 01's three added rules.
 pub fn fits(
     cells: &[u32],
     bytes: &[u8],
@@ -102,5 +102,5 @@ pub fn fits(
     ensures { λ r. ⌜ Fits (table (now (cells .entry)) (now (bytes .entry))) (now (names .entry)) (now (types .entry)) task end depth role r ⌝ }
 {
     let found = type_of(cells, bytes, names, types, task, end, depth);
-    fitting::suits(found, names, types, role)
+    fitting::suits(found, bytes, names, types, role)
 }
