@@ -1,0 +1,4 @@
+pub mod Writes
+pub mod Filled
+pub mod Puts
+pub mod Laws

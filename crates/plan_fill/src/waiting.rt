@@ -1,0 +1,60 @@
+// Who waits for whom: the row of a task marks the tasks that its schedule constraints name.
+use limits::Tasks;
+use plan_cells::found::child;
+use plan_cells::found::find;
+use row_tests::cells::handle;
+use row_tests::cells::kind;
+ghost use Rattle.plan_fill.specs.Waiting.{Sets, Waits, AllWaits};
+
+const CONSTRAINT: usize = 57;
+
+// The task `t` waits for the task `a`.
+fn set(w: [[bool; 32]; 32], t: usize, a: usize) -> [[bool; 32]; 32]
+    ensures { λ r. ⌜ Sets w t a r ⌝ }
+{
+    if Tasks::LIMIT <= t {
+        return w;
+    }
+    if Tasks::LIMIT <= a {
+        return w;
+    }
+    let mut v = w;
+    let mut row = v[t];
+    row[a] = true;
+    v[t] = row;
+    v
+}
+
+// What the row `k` tells, where the last component names the task `c`.
+fn wait(
+    rows: &[u32],
+    bytes: &[u8],
+    tasks: &[u32],
+    m: usize,
+    k: usize,
+    c: usize,
+    w: [[bool; 32]; 32],
+) -> [[bool; 32]; 32]
+    ensures { λ r. ⌜ Waits (now (rows .entry)) (now (bytes .entry)) (now (tasks .entry)) m k c w r ⌝ }
+{
+    if kind(rows, k) != CONSTRAINT {
+        return w;
+    }
+    set(w, c, find(rows, bytes, tasks, m, false, handle(rows, k)))
+}
+
+// What the first `n` rows tell of `m` tasks.
+pub fn waiting(rows: &[u32], n: usize, bytes: &[u8], tasks: &[u32], m: usize) -> [[bool; 32]; 32]
+    ensures { λ r. ⌜ AllWaits (now (rows .entry)) n (now (bytes .entry)) (now (tasks .entry)) m r ⌝ }
+{
+    let mut w = [[false; 32]; 32];
+    let mut c = 0;
+    let mut k = 0;
+    while k < n {
+        let v = wait(rows, bytes, tasks, m, k, c, w);
+        w = v;
+        c = child(rows, bytes, tasks, m, k, c);
+        k += 1;
+    }
+    w
+}

@@ -1,0 +1,13 @@
+pub mod Columns
+pub mod Written
+pub mod TaskColumns
+pub mod WaitColumns
+pub mod SourceColumns
+pub mod ConditionColumns
+pub mod AssignmentColumns
+pub mod NameColumns
+pub mod OrderColumn
+pub mod BareRows
+pub mod Encodes
+pub mod Loaded
+pub mod Law

@@ -1,0 +1,10 @@
+pub mod Counting
+pub mod Last
+pub mod Stands
+pub mod Owned
+pub mod Seen
+pub mod Reads
+pub mod ReadLaws
+pub mod Words
+pub mod Components
+pub mod SourceRows

@@ -1,0 +1,1 @@
+// What load works out of a guideline for the engine, and what it tells of every table that calls and cycles leave: see specs/.
