@@ -3,14 +3,14 @@ use batch::Next;
 use libc::STDOUT_FILENO;
 use verdict::Verdict;
 
-fn write_reads() {
-    io::write_all(STDOUT_FILENO, b"reads\n");
+fn write_loads() {
+    io::write_all(STDOUT_FILENO, b"loads\n");
 }
 
 // One text.
 fn answer(text: &[u8]) {
     match verdict::decide(text) {
-        Verdict::Reads => write_reads(),
+        Verdict::Loads => write_loads(),
         Verdict::Refused(number, place) => batch::write_refused(number, place),
     }
 }

@@ -1,16 +1,16 @@
--- `decide`: by the reply of reading.
+-- `decide`: by load's answer.
 use Prim.Native.Nat.{ℕ}
 use lib.ListN.{length-replicate}
-use Rattle.verdict.specs.DecidedLaws.{accepted, turned}
+use Rattle.verdict.specs.DecidedLaws.{loaded, turned}
 use borrow.Author.Needs.{needs}
 use Rattle.verdict.proofs.decide.Statement.{statement}
 use Rattle.verdict.proofs.decide.Tie as tie
 
 returns : tie.Need-returns
-returns c = accepted (c .before .before .before .before .before .read .ensures) (length-replicate {A = ℕ} 10920 0) (length-replicate {A = ℕ} 4096 0) (length-replicate {A = ℕ} 16384 0) (c .enum-told .given .1)
+returns c = loaded (c .before .before .before .before .before .judge .ensures) (length-replicate {A = ℕ} 10920 0) (length-replicate {A = ℕ} 4096 0) (length-replicate {A = ℕ} 16384 0) (c .enum-told .given .1)
 
 returns-2 : tie.Need-returns-2
-returns-2 c = turned (c .before .before .before .before .before .before .read .ensures) (length-replicate {A = ℕ} 10920 0) (length-replicate {A = ℕ} 4096 0) (length-replicate {A = ℕ} 16384 0) (c .before .number .given .1)
+returns-2 c = turned (c .before .before .before .before .before .before .judge .ensures) (length-replicate {A = ℕ} 10920 0) (length-replicate {A = ℕ} 4096 0) (length-replicate {A = ℕ} 16384 0) (c .before .number .given .1)
 
 pub decide-spec : {M : Type 1} → statement M
 decide-spec =

@@ -1,0 +1,1 @@
+// What load leaves holds the published state: see specs/.
