@@ -1,0 +1,5 @@
+pub mod Holding
+pub mod Values
+pub mod Shown
+pub mod OneState
+pub mod Elsewhere
