@@ -1,0 +1,17 @@
+// 8.3.3, SetEngineTime.
+use replying::Reply;
+ghost use Rattle.clock.specs.Time.{SetsTime};
+
+// Sets the engine time: refused with 7, or with 6 where it is beyond the limit.
+pub fn set_time(s: &mut [u32], time: u64) -> Reply
+    ensures { λ r. ⌜ SetsTime time (now (s .entry)) (now (s .exit)) r ⌝ }
+{
+    if replying::ready(s) {
+        if time <= limits::EngineTime::LIMIT {
+            blocks::put_cell(s, 2, time as u32);
+            return Reply::Done;
+        }
+        return Reply::Refused(6);
+    }
+    Reply::Refused(7)
+}

@@ -1,0 +1,92 @@
+// What C and Rust link: the public calls over slices of numbers. Who waits for whom is 1,024 bytes, 1 for a mark.
+// The names begin with the library's, since a program has one space of names for all that it links.
+use replying::Reply;
+use running::Ending;
+use runs::Ran;
+ghost use mathlib.Core.Path.{_≡_};
+ghost use Rattle.square.specs.Square.{squareOf};
+ghost use Rattle.replying.specs.Replying.{published};
+ghost use Rattle.runs.specs.Run.{published as published-run};
+ghost use Rattle.exports.specs.Outcomes.{Tells, Runs, SetsTime, Confirms, Triggers};
+
+// number: 0, or that of the refusal; place and count: of a refusal; ending: of a run 1 quiet, 2 bounded, 3 exception, with its count of cycles; 0 else.
+#[repr(C)]
+pub struct Outcome {
+    pub number: u32,
+    pub ending: u32,
+    pub count: u32,
+    pub place: u64,
+}
+
+fn told(number: u32, ending: u32, count: u32) -> Outcome
+    ensures { λ r. ⌜ (r .number ≡ number) × (r .ending ≡ ending) × (r .count ≡ count) × (r .place ≡ 0) ⌝ }
+{
+    Outcome {
+        number: number,
+        ending: ending,
+        count: count,
+        place: 0,
+    }
+}
+
+fn replied(r: Reply) -> Outcome
+    ensures { λ a. ⌜ Tells (published r) a ⌝ }
+{
+    match r {
+        Reply::Done => told(0, 0, 0),
+        Reply::Refused(n) => told(n as u32, 0, 0),
+    }
+}
+
+fn ran(r: Ran) -> Outcome
+    ensures { λ a. ⌜ Tells (published-run r) a ⌝ }
+{
+    match r {
+        Ran::Quiet(k) => told(0, Ending::QUIET, k),
+        Ran::Bounded(k) => told(0, Ending::BOUNDED, k),
+        Ran::Exception(k) => told(0, Ending::EXCEPTION, k),
+        Ran::Refused(n) => told(n as u32, 0, 0),
+    }
+}
+
+#[no_mangle]
+pub extern "C" fn schotterei_run(
+    parts: &[u32],
+    texts: &mut [u8],
+    plan: &[u32],
+    waits: &[u8],
+    state: &mut [u32],
+    changes: &mut [u32],
+    bound: u64,
+) -> Outcome
+    ensures { λ r. ⌜ Runs bound (now (parts .entry)) (now (texts .entry)) (now (plan .entry)) (squareOf (now (waits .entry))) (now (state .entry)) (now (texts .exit)) (now (state .exit)) (now (changes .entry)) (now (changes .exit)) r ⌝ }
+{
+    let w = square::unpack(waits);
+    ran(schotterei::run(parts, texts, plan, w, state, changes, bound))
+}
+
+#[no_mangle]
+pub extern "C" fn schotterei_set_time(state: &mut [u32], time: u64) -> Outcome
+    ensures { λ r. ⌜ SetsTime time (now (state .entry)) (now (state .exit)) r ⌝ }
+{
+    replied(schotterei::set_time(state, time))
+}
+
+#[no_mangle]
+pub extern "C" fn schotterei_confirm(plan: &[u32], state: &mut [u32], task: u64) -> Outcome
+    ensures { λ r. ⌜ Confirms task (now (plan .entry)) (now (state .entry)) (now (state .exit)) r ⌝ }
+{
+    replied(schotterei::confirm(plan, state, task))
+}
+
+#[no_mangle]
+pub extern "C" fn schotterei_trigger(
+    texts: &[u8],
+    plan: &[u32],
+    state: &mut [u32],
+    name: &[u8],
+) -> Outcome
+    ensures { λ r. ⌜ Triggers (now (name .entry)) (now (texts .entry)) (now (plan .entry)) (now (state .entry)) (now (state .exit)) r ⌝ }
+{
+    replied(schotterei::trigger(texts, plan, state, name))
+}
