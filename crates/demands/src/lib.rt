@@ -1,0 +1,1 @@
+// The three demands, of tables that public calls leave: see specs/.
