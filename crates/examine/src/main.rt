@@ -1,12 +1,10 @@
-// Examines one guideline: reads any bytes from standard input and writes `refused N P` or `reads`; then, for people, of a refusal the line and what is wrong, and of a guideline that reads the names that are read as text.
-mod bare;
-mod locate;
-mod names;
-mod say;
-mod write;
-
+// Examines one guideline: reads any bytes from standard input and writes `refused N P` or `loads`; then, for people, of a refusal the line and what is wrong, and of a guideline that loads the names that are read as text.
+use bare_names::names;
 use libc::STDIN_FILENO;
 use limits::Guideline;
+use remarks::locate;
+use remarks::say;
+use sentences::write;
 use spot::seen;
 use spot::seen::Seen;
 use verdict::Verdict;
@@ -80,8 +78,8 @@ fn examine(text: &[u8], s: Seen) {
         return;
     }
     match verdict::decide(text) {
-        Verdict::Reads => {
-            write::text(b"reads\n");
+        Verdict::Loads => {
+            write::text(b"loads\n");
             names::list(text);
         }
         Verdict::Refused(number, place) => tell(

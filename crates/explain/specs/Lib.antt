@@ -1,4 +1,3 @@
 pub mod Offer
 pub mod Spelling
 pub mod Quotes
-pub mod Role
