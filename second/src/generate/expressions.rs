@@ -29,7 +29,7 @@ const FUNCTORS: [&str; 15] = [
 const INFIX: [&str; 14] =
     ["+", "-", "*", "/", "<", "=", "!=", "and", "or", "AND", "OR", "includes", "include", "oneof"];
 const COMPARISONS: [&str; 8] = ["<", "<=", "=<", ">", ">=", "=>", "=", "!="];
-const EVERY_TYPE: [Type; 8] = [
+pub const EVERY_TYPE: [Type; 8] = [
     Type::Text,
     Type::Integer,
     Type::Real,
@@ -81,7 +81,18 @@ impl Expressions<'_> {
         self.random.pick(&FUNCTORS)
     }
 
+    /// The wanted type, or now and then one that promotes to it. (An empty list
+    /// does not pass for a set of texts everywhere, and comes as a list.)
+    fn before_promotion(&mut self, wanted: Type) -> Type {
+        match wanted {
+            Type::Real if self.random.chance(20) => Type::Integer,
+            Type::SetofReal if self.random.chance(20) => Type::SetofInteger,
+            _ => wanted,
+        }
+    }
+
     fn make(&mut self, wanted: Type, depth: usize) -> Made {
+        let wanted = self.before_promotion(wanted);
         let made = match depth {
             0 => self.leaf(wanted),
             _ if self.random.chance(20) => self.leaf(wanted),
@@ -102,7 +113,6 @@ impl Expressions<'_> {
         match wanted {
             Type::Text => primary(vec![self.random.pick(&TEXTS).to_string()]),
             Type::Integer => self.integer(),
-            Type::Real if self.random.chance(25) => self.integer(),
             Type::Real => self.real(),
             Type::SetofText => self.list(Type::Text, 0),
             Type::SetofInteger => self.list(Type::Integer, 0),

@@ -16,20 +16,20 @@ pub fn guidelines(seed: u64, count: usize) -> impl Iterator<Item = Vec<u8>> {
 fn guideline(random: &mut Random) -> Vec<u8> {
     let kind = random.below(200);
     let mut words = match kind {
-        0..=75 => with_faults(kind, random).words(random),
-        76 => many_parts(limits::around(EXPRESSION_PARTS, random)),
-        77 => many_tokens(limits::around(TOKENS, random)),
+        0..=108 => with_faults(kind, random).words(random),
+        109 => many_parts(limits::around(EXPRESSION_PARTS, random)),
+        110 => many_tokens(limits::around(TOKENS, random)),
         _ => Sketch::new(random).words(random),
     };
-    if (78..=95).contains(&kind) {
+    if (111..=124).contains(&kind) {
         damage::a_token(&mut words, random);
     }
     let mut text = joined(&words, &ANYWHERE, random);
     match kind {
-        96..=107 => damage::a_byte(&mut text, random),
-        108 | 109 => text.extend_from_slice(random.pick(&ENDS).as_bytes()),
-        110 => text.resize(limits::around(TEXT_BYTES, random).max(text.len()), b' '),
-        111 => text.insert(random.below(text.len()), 128 + random.below(128) as u8),
+        125..=134 => damage::a_byte(&mut text, random),
+        135 | 136 => text.extend_from_slice(random.pick(&ENDS).as_bytes()),
+        137 => text.resize(limits::around(TEXT_BYTES, random).max(text.len()), b' '),
+        138 => text.insert(random.below(text.len()), 128 + random.below(128) as u8),
         _ => {}
     }
     text
@@ -42,10 +42,10 @@ const ENDS: [&str; 8] = ["'", "\"", " /** ", "\0", "x", ".", "  ", "\x7f"];
 fn with_faults(kind: usize, random: &mut Random) -> Sketch {
     let mut sketch = Sketch::new(random);
     match kind {
-        0..=29 => faults::names(&mut sketch, random),
-        30..=46 => faults::types(&mut sketch, random),
-        47..=60 => faults::left_out(&mut sketch, random),
-        61..=74 => faults::at_a_limit(&mut sketch, random),
+        0..=39 => faults::names(&mut sketch, random),
+        40..=85 => faults::types(&mut sketch, random),
+        86..=95 => faults::left_out(&mut sketch, random),
+        96..=107 => faults::at_a_limit(&mut sketch, random),
         _ => faults::hostile(&mut sketch, random),
     }
     if random.chance(20) {

@@ -49,8 +49,7 @@ struct Making<'maker> {
 }
 
 impl Making<'_> {
-    /// Now and then calls before any load; then a guideline or a few, the last
-    /// rows read.
+    /// Now and then calls before any load; then a guideline or a few.
     fn script(&mut self) {
         if self.random.chance(8) {
             self.any_calls(3);
@@ -59,11 +58,19 @@ impl Making<'_> {
         while self.random.chance(12) {
             self.guideline();
         }
-        self.put(Call::Rows);
+    }
+
+    /// Makes a call and, unless it only reads, reads every row after it.
+    fn put(&mut self, call: Call) {
+        let only_reads = matches!(call, Call::Row(..) | Call::Rows);
+        self.remember(call);
+        if !only_reads {
+            self.remember(Call::Rows);
+        }
     }
 
     /// Makes a call, and remembers it and its answer.
-    fn put(&mut self, call: Call) {
+    fn remember(&mut self, call: Call) {
         let answer = answer(&mut self.session, &call);
         self.figures.count(&call, &answer);
         self.calls.push(call);

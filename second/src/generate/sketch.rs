@@ -196,8 +196,13 @@ impl Sketch {
         made
     }
 
-    /// An expression for an assignment: bracketed if it holds an `and`.
+    /// An expression for an assignment: an empty list for a set now and then,
+    /// and bracketed if it holds an `and`.
     fn assigned(&mut self, wanted: Type, random: &mut Random) -> Words {
+        let is_set = matches!(wanted, Type::SetofText | Type::SetofInteger | Type::SetofReal);
+        if is_set && random.chance(10) {
+            return words("[ ]");
+        }
         let value = self.expression(wanted, random);
         match value.iter().any(|word| word == "and") {
             true => [words("("), value, words(")")].concat(),

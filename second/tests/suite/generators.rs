@@ -75,7 +75,9 @@ fn guidelines_are_a_mix() {
     for number in [1, 2, 3, 4, 5, 6, 10] {
         assert!(count(&spread, &format!("refused {number}")) > 0, "refusal {number} is there");
     }
-    assert!((280..450).contains(&count(&spread, "loads")), "about half of the guidelines load");
+    let broken = count(&spread, "refused 4") + count(&spread, "refused 5");
+    assert!(3 * broken >= spread.values().sum(), "a third of the guidelines break names or types");
+    assert!((230..350).contains(&count(&spread, "loads")), "two in five of the guidelines load");
 }
 
 #[test]

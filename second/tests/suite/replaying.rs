@@ -122,7 +122,7 @@ fn the_worked_scripts() {
             scripts += 1;
         }
     }
-    assert!(scripts >= 6);
+    assert!(scripts >= 13);
 }
 
 /// A task that starts, is confirmed, and collides with itself.

@@ -1,6 +1,7 @@
 //! Faults in a sketch, each breaking one rule (or doing nothing, where the
 //! sketch has nothing to break), and the changes they are made of.
 
+mod entries;
 mod left_out;
 mod limits;
 mod names;
@@ -12,8 +13,8 @@ pub use names::names;
 pub use types::types;
 
 use super::random::Random;
-use super::sketch::{Attribute, Owner, Sketch};
-use super::words::words;
+use super::sketch::{spelled, Attribute, Owner, Sketch};
+use super::words::{words, Words};
 
 /// A change to a sketch.
 type Fault = fn(&mut Sketch, &mut Random);
@@ -41,6 +42,14 @@ fn replace(owner: &mut Owner, attribute: Attribute) {
     owner.attributes.push(attribute);
 }
 
+/// Assigns a value to a new item of a declared type, in some task.
+fn assign(sketch: &mut Sketch, declared: &str, value: Words, random: &mut Random) {
+    add_item(sketch, "told".to_string(), declared);
+    let assignment = [words("told = ("), value, words(")")].concat();
+    let task = random.below(sketch.tasks.len());
+    replace(&mut sketch.tasks[task], Attribute::new("postcondition", assignment));
+}
+
 /// Some component, or source, as the numbers of its task and attribute.
 fn an_inner(sketch: &Sketch, word: &str, random: &mut Random) -> Option<(usize, usize)> {
     let mut found = Vec::new();
@@ -66,7 +75,7 @@ fn add_item(sketch: &mut Sketch, name: String, declared: &str) {
 /// Adds a task as a component of some plan.
 fn add_task(sketch: &mut Sketch, owner: Owner, random: &mut Random) {
     let plan = a_plan(sketch, random);
-    let component = Attribute::new("component", vec![owner.name.clone()]);
+    let component = Attribute::new("component", vec![spelled(&owner.name, random)]);
     sketch.tasks[plan].attributes.push(component);
     sketch.tasks.push(owner);
 }

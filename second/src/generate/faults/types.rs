@@ -1,22 +1,21 @@
 //! Expressions of the wrong type.
 
-use super::{owner, put_first, replace};
-use crate::generate::expressions::Expressions;
+use super::entries::{entry, list};
+use super::{assign, owner, put_first, replace, Fault};
+use crate::generate::expressions::{Expressions, EVERY_TYPE};
 use crate::generate::random::Random;
 use crate::generate::sketch::{declared_type, spelled, Attribute, Sketch};
 use crate::generate::words::{words, Words};
-use crate::types::Type;
 
-/// Puts in an expression of a wrong type.
+/// Puts in an expression that may be of a wrong type, or of none.
 pub fn types(sketch: &mut Sketch, random: &mut Random) {
-    let wrong = random.pick(&[
-        Type::Text,
-        Type::Integer,
-        Type::Real,
-        Type::SetofReal,
-        Type::SetofAnything,
-        Type::TruthValue,
-    ]);
+    let faults: [Fault; 6] = [wrong_value, wrong_value, promoted, list, entry, entry];
+    random.pick(&faults)(sketch, random);
+}
+
+/// An expression of any type, or of none, where one of another type may stand.
+fn wrong_value(sketch: &mut Sketch, random: &mut Random) {
+    let wrong = random.pick(&EVERY_TYPE);
     let value = match random.chance(40) {
         true => Expressions { random, items: &[], tasks: &[] }.wild(2),
         false => sketch.expression(wrong, random),
@@ -25,6 +24,47 @@ pub fn types(sketch: &mut Sketch, random: &mut Random) {
         true => wrong_attribute(sketch, value, random),
         false => wrong_assignment(sketch, value, random),
     }
+}
+
+/// Promotions, and promotions turned round: a declared type and what is
+/// assigned to an item of it.
+const PROMOTIONS: [(&str, &str); 30] = [
+    ("real", "1"),
+    ("date", "sum ( [ ] )"),
+    ("time", "count ( [ ] )"),
+    ("datetime", "- 7"),
+    ("setof_real", "[ 1 ]"),
+    ("setof_real", "[ ]"),
+    ("setof_real", "if ( 1 = 1 , [ ] , [ ] )"),
+    ("setof_real", "if ( 1 = 1 , [ 1 ] , [ 0.5 ] )"),
+    ("setof_integer", "[ ]"),
+    ("setof_integer", "if ( 1 = 1 , [ ] , [ ] )"),
+    ("setof_text", "[ ]"),
+    ("setof_text", "if ( 1 = 1 , [ ] , [ a ] )"),
+    ("integer", "max ( [ ] )"),
+    ("integer", "nth ( 1 , [ ] )"),
+    ("boolean", "yes"),
+    ("integer", "1.0"),
+    ("integer", "7 / 7"),
+    ("integer", "if ( 1 = 1 , 1 , 0.5 )"),
+    ("integer", "sum ( [ 1 , 2.0 ] )"),
+    ("integer", "nth ( 1.0 , [ 1 ] )"),
+    ("setof_integer", "[ 1 , 2.0 ]"),
+    ("setof_integer", "if ( 1 = 1 , [ ] , [ 0.5 ] )"),
+    ("setof_text", "if ( 1 = 1 , [ ] , [ ] )"),
+    ("setof_text", "[ 1 ]"),
+    ("setof_real", "[ a ]"),
+    ("setof_real", "0.5"),
+    ("real", "[ 1 ]"),
+    ("text", "[ ]"),
+    ("text", "max ( [ ] )"),
+    ("boolean", "1 = 1"),
+];
+
+/// An assignment to a new item that fits by a promotion, or does not.
+fn promoted(sketch: &mut Sketch, random: &mut Random) {
+    let (declared, value) = random.pick(&PROMOTIONS);
+    assign(sketch, declared, words(value), random);
 }
 
 /// Changes the value of some expression, or adds a caption.
