@@ -1,0 +1,220 @@
+// Values, into cells and bytes as docs/TABLES.md has those of a data item: tags and numbers, first that of the shape, and texts by their handles.
+use crate::lexemes::NOWHERE;
+use crate::lexemes::Text;
+use crate::lexemes::after;
+use crate::lexemes::behind;
+use crate::lexemes::digits;
+use crate::lexemes::text_at;
+use blocks::put_cell;
+use numbers::Num;
+use parts::byte;
+
+// The most that a script has of each.
+pub struct Given {}
+
+impl Given {
+    // elements of a list
+    pub const ELEMENTS: usize = 20;
+
+    // cells of a value: its shape and its elements
+    pub const CELLS: usize = 21;
+
+    // integers, and the thousandths of reals, without their sign
+    pub const INTEGER: u64 = 2_147_483_647;
+
+    pub const REAL: u64 = 4_611_686_018_427_387_903;
+
+    // bytes for the text of one element, and of all
+    pub const TEXT: usize = 64;
+
+    pub const BYTES: usize = 1_280;
+}
+
+// One element: its cells, and the place behind it.
+struct Element {
+    tag: u32,
+    number: u32,
+    next: usize,
+}
+
+// The tags of elements.
+impl Element {
+    const UNKNOWN: u32 = 0;
+
+    const TRUTH: u32 = 1;
+
+    const INTEGER: u32 = 2;
+
+    const REAL: u32 = 3;
+
+    const TEXT: u32 = 4;
+}
+
+fn truth(s: &[u8], at: usize) -> Element {
+    let p = behind(s, at, b"0");
+    if p != NOWHERE {
+        return Element {
+            tag: Element::TRUTH,
+            number: 0,
+            next: p,
+        };
+    }
+    Element {
+        tag: Element::TRUTH,
+        number: 1,
+        next: behind(s, at, b"1"),
+    }
+}
+
+// The cell of a number: one beyond every limit stands for all that are.
+fn moved(minus: bool, n: u64) -> u32 {
+    let zero = Num::REAL_LIMIT as u64;
+    if zero < n {
+        return u32::MAX;
+    }
+    if minus {
+        return (zero - n) as u32;
+    }
+    (zero + n) as u32
+}
+
+// A number with its sign, up to its limit.
+fn signed(s: &[u8], at: usize, tag: u32, limit: u64) -> Element {
+    let p = behind(s, at, b"-");
+    if p == NOWHERE {
+        return unsigned(s, at, tag, limit, false);
+    }
+    unsigned(s, p, tag, limit, true)
+}
+
+fn unsigned(s: &[u8], at: usize, tag: u32, limit: u64, minus: bool) -> Element {
+    let d = digits(s, at);
+    if limit < d.value {
+        return nothing();
+    }
+    Element {
+        tag: tag,
+        number: moved(minus, d.value),
+        next: d.next,
+    }
+}
+
+fn nothing() -> Element {
+    Element {
+        tag: Element::UNKNOWN,
+        number: 0,
+        next: NOWHERE,
+    }
+}
+
+// The text of the i-th element, to its place among the bytes.
+fn spelt(s: &[u8], at: usize, bytes: &mut [u8], i: usize) -> Element {
+    if Given::ELEMENTS <= i {
+        return nothing();
+    }
+    let place = Given::TEXT * i;
+    let t = text_at(s, at, bytes, place);
+    Element {
+        tag: Element::TEXT,
+        number: handle(place, t.len),
+        next: t.next,
+    }
+}
+
+// The handle of a text of `n` bytes at a place.
+fn handle(place: usize, n: usize) -> u32 {
+    if Given::BYTES < place {
+        return 0;
+    }
+    if Text::KEPT < n {
+        return 0;
+    }
+    (place * Given::TEXT + n) as u32
+}
+
+// The i-th element.
+fn element_at(s: &[u8], at: usize, bytes: &mut [u8], i: usize) -> Element {
+    let p = after(s, at);
+    match byte(s, at) {
+        b'u' => Element {
+            tag: Element::UNKNOWN,
+            number: 0,
+            next: p,
+        },
+        b'b' => truth(s, p),
+        b'i' => signed(s, p, Element::INTEGER, Given::INTEGER),
+        b'r' => signed(s, p, Element::REAL, Given::REAL),
+        b't' => spelt(s, p, bytes, i),
+        _ => nothing(),
+    }
+}
+
+// Reads the i-th element into its cells: the place behind it.
+fn put_element(
+    s: &[u8],
+    at: usize,
+    tags: &mut [u32],
+    numbers: &mut [u32],
+    bytes: &mut [u8],
+    i: usize,
+) -> usize {
+    if Given::ELEMENTS <= i {
+        return NOWHERE;
+    }
+    let e = element_at(s, at, bytes, i);
+    put_cell(tags, 1 + i, e.tag);
+    put_cell(numbers, 1 + i, e.number);
+    e.next
+}
+
+// The same, behind a comma if it is not the first.
+fn next_element(
+    s: &[u8],
+    at: usize,
+    tags: &mut [u32],
+    numbers: &mut [u32],
+    bytes: &mut [u8],
+    i: usize,
+) -> usize {
+    if i == 0 {
+        return put_element(s, at, tags, numbers, bytes, i);
+    }
+    put_element(s, behind(s, at, b","), tags, numbers, bytes, i)
+}
+
+// The end of a list of n elements, with its shape.
+fn closed(s: &[u8], at: usize, tags: &mut [u32], n: usize) -> usize {
+    if Given::ELEMENTS < n {
+        return NOWHERE;
+    }
+    put_cell(tags, 0, n as u32 + 1);
+    behind(s, at, b")")
+}
+
+fn list(s: &[u8], at: usize, tags: &mut [u32], numbers: &mut [u32], bytes: &mut [u8]) -> usize {
+    let mut p = at;
+    let mut n = 0usize;
+    while n < Given::ELEMENTS {
+        if byte(s, p) == b')' {
+            return closed(s, p, tags, n);
+        }
+        p = next_element(s, p, tags, numbers, bytes, n);
+        n += 1;
+    }
+    closed(s, p, tags, n)
+}
+
+// Reads a value into cells and bytes that are blank: the place behind it.
+pub fn value(
+    s: &[u8],
+    at: usize,
+    tags: &mut [u32],
+    numbers: &mut [u32],
+    bytes: &mut [u8],
+) -> usize {
+    let p = behind(s, at, b"l(");
+    if p == NOWHERE {
+        return put_element(s, at, tags, numbers, bytes, 0);
+    }
+    list(s, p, tags, numbers, bytes)
+}

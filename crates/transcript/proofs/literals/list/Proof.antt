@@ -1,0 +1,16 @@
+-- `list` is safe and ends: the measure is how many elements are left.
+use Prim.Native.Nat.{_-_}
+use mathlib.Core.Path.{_≡_}
+use lib.ListN.{length}
+use borrow.Author.Needs.{needs}
+use Rattle.transcript.proofs.literals.list.Statement.{statement}
+use Rattle.transcript.proofs.literals.list.Tie as tie
+
+abbrev Inv-loop : tie.InvT-loop
+Inv-loop bytes l out₀ o p₀ n i₀ out p i = length out ≡ length out₀
+
+abbrev μ-loop : tie.MeasureT-loop
+μ-loop bytes l out₀ o p₀ n i₀ out p i = n - i
+
+pub list-spec : {M : Type 1} → statement M
+list-spec = tie.close (tie.spec Inv-loop μ-loop (λ c. search needs) (λ c κs. search needs) (λ c κs. search needs) (λ c. search needs) (λ c κs. search needs) (λ c. search needs) (λ c. search needs) (λ c. search needs) (λ c κs. search needs) (λ c. search needs) (λ c. search needs))
