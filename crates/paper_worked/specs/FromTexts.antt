@@ -17,10 +17,10 @@ use Rattle.paper_worked.specs.Texts
 use Texts.{plots-text, reads-plots, terminal-text, reads-terminal, unwanted-text, reads-unwanted, triggered-text, reads-triggered, source-text, reads-source, collision-text, reads-collision}
 
 -- the guideline as load leaves it, at an engine time
-abbrev held : List TopLevel → ℕ → State
+abbrev pub held : List TopLevel → ℕ → State
 held g now = loaded (record { structure = g; table = lookF (loadF g); flag = false; time = now })
 
-ready : {g : List TopLevel} {now : ℕ} → ¬ Unready (held g now)
+pub ready : {g : List TopLevel} {now : ℕ} → ¬ Unready (held g now)
 ready (flag-set e) = no-clash (cc)
 
 -- the state that a worked run leaves

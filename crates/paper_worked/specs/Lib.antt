@@ -3,3 +3,4 @@ pub mod Reader
 pub mod Loading
 pub mod Texts
 pub mod FromTexts
+pub mod Fluke

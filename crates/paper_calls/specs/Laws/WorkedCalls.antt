@@ -61,7 +61,7 @@ module _ (N : Sets) {l : List Row} (listed : Listed (λ c p r. N c p (some r)) l
 
 -- ---- confirm, add
 
-abbrev confirm-rows : ℕ → List Row
+abbrev pub confirm-rows : ℕ → List Row
 confirm-rows T = a-row (task № T) confirmed (truth-row true) ∷ []
 
 confirm-listed : (T : ℕ) → Listed (λ c p r. ConfirmTask T c p (some r)) (confirm-rows T)
@@ -79,7 +79,7 @@ confirms T t = sets (ConfirmTask T) (confirm-listed T) (λ c p h. elim h [ ]) on
     once : (c : Component) (p : Property) (r q : RowValue) → ConfirmTask T c p (some r) → ConfirmTask T c p (some q) → q ≡ r
     once c p r q confirm-2 confirm-2 = refl
 
-abbrev add-rows : ℕ → Value → List Row
+abbrev pub add-rows : ℕ → Value → List Row
 add-rows d w = (a-row (data-item № d) value (value-is w) ∷ []) ++ (a-row (data-item № d) requested (truth-row false) ∷ [])
 
 add-listed : (d : ℕ) (w : Value) → Listed (λ c p r. AddDataValue d w c p (some r)) (add-rows d w)
@@ -138,26 +138,26 @@ module _ {g : List TopLevel} {t : Table} (held : Kept g t) (trig : List ℕ) whe
 
 -- ---- runs between calls
 
-abbrev state-of : List TopLevel → Table → State
+abbrev pub state-of : List TopLevel → Table → State
 state-of g t = loaded (record { structure = g; table = t; flag = false; time = 7 })
 
-ready : {g : List TopLevel} {t : Table} → ¬ Unready (state-of g t)
+pub ready : {g : List TopLevel} {t : Table} → ¬ Unready (state-of g t)
 ready (flag-set e) = no-clash (cc)
 
 -- a run of at most 256 cycles at the engine time 7, and the table that it leaves
-abbrev endF : List TopLevel → Table → Cycle.State × Report
+abbrev pub endF : List TopLevel → Table → Cycle.State × Report
 endF g t = runF g 7 256 0 t false
 
-abbrev afterF : List TopLevel → Table → Table
+abbrev pub afterF : List TopLevel → Table → Table
 afterF g t = endF g t .0 .table
 
-runs : {g : List TopLevel} {t : Table} {r : Report} → Lawful g → Kept g t → endF g t .0 .flag ≡ false → endF g t .1 ≡ r → Calls (run 256 1024) (state-of g t) (ran r) (state-of g (afterF g t))
+pub runs : {g : List TopLevel} {t : Table} {r : Report} → Lawful g → Kept g t → endF g t .0 .flag ≡ false → endF g t .1 ≡ r → Calls (run 256 1024) (state-of g t) (ran r) (state-of g (afterF g t))
 runs {g} {t} {r} l k e f =
     subst (λ (x : Bool). Calls (run 256 1024) (state-of g t) (ran r) (loaded (record { structure = g; table = afterF g t; flag = x; time = 7 }))) e
     (subst (λ (x : Report). Calls (run 256 1024) (state-of g t) (ran x) (loaded (record { structure = g; table = afterF g t; flag = endF g t .0 .flag; time = 7 }))) f
     (run-done ready (omega arith) (omega arith) (EnactLaws.run l 7 256 t false k)))
 
-kept-after : {g : List TopLevel} {t : Table} → Lawful g → Kept g t → Kept g (afterF g t)
+pub kept-after : {g : List TopLevel} {t : Table} → Lawful g → Kept g t → Kept g (afterF g t)
 kept-after {g} {t} l k = run-kept l k (EnactLaws.run l 7 256 t false k)
 
 -- ---- a trigger and its new start: the task starts, completes, and is initialised, for the start has not cleared trigger_active; then it can be triggered again
