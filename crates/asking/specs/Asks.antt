@@ -8,7 +8,7 @@ use lib.ListN.{getD, length}
 use Rattle.paper_guideline.specs.Structure.{TopLevel}
 use Rattle.paper_rows.specs.Table.{Table}
 use Rattle.parts.specs.Part as Parts
-use Rattle.changes.specs.Row.{Appends}
+use Rattle.changes.specs.Row.{Distinct, Appends, distinct}
 use Rattle.review.specs.Changes.{ChangesS, tasksIn, Few, Reviews}
 use Rattle.truths.specs.Part.{shownBy}
 use Rattle.truths.specs.Truth.{AllAllowed, AllEnded}
@@ -24,6 +24,8 @@ Lent o = 4096 ≤ length o
 pub record Asked (f : List ℕ) (t : Table) (now : ℕ) (q : List ℕ) (m : ℕ) : Type 0 where
   pub few : m ≤ 576
   pub room : 4 * m ≤ length q
+  -- no row stands there twice
+  pub once : Distinct q m
   pub rows : Enact.Holds q m (ChangesS f t now (tasksIn f))
 
 abbrev pub AskedFor : List ℕ → List ℕ → List ℕ → List (List Bool) → List ℕ → List ℕ → List ℕ → ℕ → Type 0
@@ -41,5 +43,6 @@ asked x b f w s o q m pre wait ends c p v e i r n g t flag time h lent =
     record {
       few = few;
       room = omega arith;
-      rows = record { asked = λ j l. z .asked j (omega arith) l; all = λ u y d l. (let x1 = z .all l in (x1 .0, x1 .2, x1 .3)) };
+      once = distinct z;
+      rows = record { asked = λ j l. z .asked j (omega arith) l; all = λ u y d l. z .all l };
     }

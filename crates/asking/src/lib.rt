@@ -1,4 +1,6 @@
 // 8.3.2, 2: what one cycle asks for, from the tables alone.
+use state::Header;
+use state::Plan;
 ghost use mathlib.Core.Path.{_≡_};
 ghost use Rattle.asking.specs.Asks.{AskedFor};
 
@@ -6,8 +8,8 @@ ghost use Rattle.asking.specs.Asks.{AskedFor};
 pub fn ask(x: &[u32], b: &[u8], f: &[u32], w: [[bool; 32]; 32], s: &[u32], out: &mut [u32]) -> usize
     ensures { λ r. ⌜ AskedFor (now (x .entry)) (now (b .entry)) (now (f .entry)) w (now (s .entry)) (now (out .entry)) (now (out .exit)) r ⌝ }
 {
-    let pre = truths::all_allowed(x, b, f, s, 520);
-    let wait = truths::all_allowed(x, b, f, s, 552);
-    let ends = truths::all_ended(x, b, f, s, 584);
-    review::review(s, f, w, pre, wait, ends, blocks::cell(s, 2), out)
+    let pre = truths::all_allowed(x, b, f, s, Plan::PRECONDITION);
+    let wait = truths::all_allowed(x, b, f, s, Plan::WAIT_CONDITION);
+    let ends = truths::all_ended(x, b, f, s, Plan::TERMINATE);
+    review::review(s, f, w, pre, wait, ends, blocks::cell(s, Header::TIME), out)
 }

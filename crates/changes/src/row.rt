@@ -11,6 +11,13 @@ impl Row {
     // the cells of a row
     pub const CELLS: usize = 4;
 
+    // in a row: the component, the property, the tag and the number
+    pub const PROPERTY: usize = 1;
+
+    pub const TAG: usize = 2;
+
+    pub const NUMBER: usize = 3;
+
     // a task is its number, below this; a data item so much and its number
     pub const TASKS: u32 = Tasks::LIMIT as u32;
 

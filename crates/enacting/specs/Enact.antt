@@ -17,28 +17,9 @@ use Rattle.paper_engine.specs.Cycle.{OnlyRow, Collision, Enacted, not-named, en
 use Rattle.paper_engine.specs.Cycle as Cycle
 use Rattle.state.specs.Cell.{Cell, one-row}
 use Rattle.state.specs.Layout.{Rows, TaskColumn, state-column, trigger-column, confirmed-column, count-column, cycles-column, start-column, in-progress-column, discarded-column, completed-column, procedure-column}
-use Rattle.changes.specs.Row.{component-code, Column, state-at, trigger-at, confirmed-at, count-at, cycles-at, start-at-at, in-progress-at, discarded-at, completed-at, procedure-at, requested-at, value-at, Says}
+use Rattle.changes.specs.Row.{component-code, Column, state-at, trigger-at, confirmed-at, count-at, cycles-at, start-at-at, in-progress-at, discarded-at, completed-at, procedure-at, requested-at, value-at, property-at, said-property, Says}
 
 -- ---- columns and properties
-
-abbrev pub property-at : ℕ → Property
-property-at c =
-    cond (eqb c 8) state (cond (eqb c 72) trigger-active (cond (eqb c 136) confirmed (cond (eqb c 200) cycle-count (cond (eqb c 264) nbr-cycles-value
-    (cond (eqb c 328) start-at (cond (eqb c 392) in-progress-time (cond (eqb c 456) discarded-time (cond (eqb c 520) completed-time (cond (eqb c 584) actual-procedure (cond (eqb c 648) requested value))))))))))
-
-said-property : {b : ℕ} {p : Property} → Column p b → property-at b ≡ p
-said-property state-at = refl
-said-property trigger-at = refl
-said-property confirmed-at = refl
-said-property count-at = refl
-said-property cycles-at = refl
-said-property start-at-at = refl
-said-property in-progress-at = refl
-said-property discarded-at = refl
-said-property completed-at = refl
-said-property procedure-at = refl
-said-property requested-at = refl
-said-property value-at = refl
 
 column-place : {c : ℕ} {p : Property} → TaskColumn c p → (j : ℕ) × (c ≡ 8 + 64 * j) × (j < 10)
 column-place state-column = (0, refl, omega arith)

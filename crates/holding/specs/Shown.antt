@@ -133,4 +133,4 @@ module _ {g : List TopLevel} {x b f : List ℕ} {w : List (List Bool)} {s : List
       (z, planned .targets z)
 
   pub reviewed : Shown s f w t
-  reviewed = record { rows = h .rows; worked = worked; startable = startable; targets = targets }
+  reviewed = record { rows = h .rows; worked = worked; numbers = planned .numbers; startable = startable; targets = targets }

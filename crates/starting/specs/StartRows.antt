@@ -22,7 +22,8 @@ use Rattle.state.specs.Cell.{Cell, Plain, plain-unknown, plain-truth, plain-cou
 use Rattle.state.specs.Layout.{Rows, count-column}
 use Rattle.waits.specs.Booleans.{Tests, is-not}
 use Rattle.waits.specs.Twins.{firstAt, countAt, itemAt}
-use Rattle.changes.specs.Row.{component-code, Column, state-at, start-at-at, in-progress-at, confirmed-at, count-at, procedure-at, requested-at, Appends, One, this, Either, first, second, Nothing, Pushes, appends-none, appends-as, appends-more}
+use Rattle.changes.specs.Row.{component-code, Column, state-at, start-at-at, in-progress-at, confirmed-at, count-at, procedure-at, requested-at, Shared, Appends, One, this, Either, first, second, Nothing, appends-none, appends-as, appends-more}
+use Rattle.changes.specs.Push.{Asks, Pushes}
 
 -- ---- 1, 2, 3, 8
 
@@ -38,11 +39,23 @@ pub always : (now T : ℕ) (o o1 o2 o3 q : List ℕ) (n n1 n2 n3 m : ℕ) → Pu
     → Appends o n q m (Always now T)
 always now T o o1 o2 o3 q n n1 n2 n3 m a b c d =
     let e = task-code T in
-    appends-more
-    (appends-more
-    (appends-more (a (task № T) state (state-is in-progress) e state-at (plain-state in-progress) refl refl) (b (task № T) start-at unknown-row e start-at-at plain-unknown refl refl))
-    (c (task № T) in-progress-time (time-is now) e in-progress-at (plain-time now) refl refl))
-    (d (task № T) confirmed (truth-row false) e confirmed-at (plain-truth false) refl refl)
+    appends-more three
+    (appends-more two
+    (appends-more one (a (λ l i k s. refl) (task № T) state (state-is in-progress) e state-at (plain-state in-progress) refl refl) (b (λ l i k s. refl) (task № T) start-at unknown-row e start-at-at plain-unknown refl refl))
+    (c (λ l i k s. refl) (task № T) in-progress-time (time-is now) e in-progress-at (plain-time now) refl refl))
+    (d (λ l i k s. refl) (task № T) confirmed (truth-row false) e confirmed-at (plain-truth false) refl refl)
+  where
+    one : Shared (One (task № T) state (state-is in-progress)) (One (task № T) start-at unknown-row)
+    one u v p r e this h = elim h [ ]
+
+    two : Shared (Either (One (task № T) state (state-is in-progress)) (One (task № T) start-at unknown-row)) (One (task № T) in-progress-time (time-is now))
+    two u v p r e (first this) h = elim h [ ]
+    two u v p r e (second this) h = elim h [ ]
+
+    three : Shared (Either (Either (One (task № T) state (state-is in-progress)) (One (task № T) start-at unknown-row)) (One (task № T) in-progress-time (time-is now))) (One (task № T) confirmed (truth-row false))
+    three u v p r e (first (first this)) h = elim h [ ]
+    three u v p r e (first (second this)) h = elim h [ ]
+    three u v p r e (second this) h = elim h [ ]
 
 -- ---- 4
 
@@ -66,7 +79,7 @@ pub count-more : (s : List ℕ) (T : ℕ) (o : List ℕ) (n : ℕ) (q : List ℕ
 count-more s T o n q m {k} {x} e f g h t rows l room =
     let there = count-row rows l (sym e ∙ f) in
     let row : Contains t (task № T) cycle-count (integer-row (pos x)) = rw g there in
-    appends-as (λ c p r. (to row c p r, back row c p r)) (h (task № T) cycle-count (integer-row (pos (x + 1))) (task-code T) count-at (plain-count (x + 1)) refl refl)
+    appends-as (λ c p r. (to row c p r, back row c p r)) (h (λ l i y s. refl) (task № T) cycle-count (integer-row (pos (x + 1))) (task-code T) count-at (plain-count (x + 1)) refl refl)
   where
     to : Contains t (task № T) cycle-count (integer-row (pos x)) → (c : Component) (p : Property) (r : RowValue) → One (task № T) cycle-count (integer-row (pos (x + 1))) c p r → Counted t T c p r
     to row c p r this = counted row
@@ -97,7 +110,7 @@ ProcedureRow f T o n q m = (t : Table) → Tests (actionF f T) (Contains t (task
 pub procedure-more : (f : List ℕ) (T : ℕ) (o : List ℕ) (n : ℕ) (q : List ℕ) (m : ℕ) {k : ℕ} → k ≡ getD f (168 + T) 0 → k ≡ 2 → Pushes o n T 584 1 0 q m → ProcedureRow f T o n q m
 procedure-more f T o n q m {k} e g h t a =
     let row = a .0 (eq-eqb _ 2 (sym e ∙ g)) in
-    appends-as (λ c p r. (to row c p r, back c p r)) (h (task № T) actual-procedure unknown-row (task-code T) procedure-at plain-unknown refl refl)
+    appends-as (λ c p r. (to row c p r, back c p r)) (h (λ l i y s. refl) (task № T) actual-procedure unknown-row (task-code T) procedure-at plain-unknown refl refl)
   where
     to : Contains t (task № T) class (class-is an-action) → (c : Component) (p : Property) (r : RowValue) → One (task № T) actual-procedure unknown-row c p r → Unset t T c p r
     to row c p r this = unset row
@@ -136,7 +149,7 @@ request-none s d o n e t S rows l h = appends-as (λ c p r. (λ z. elim z [ ], �
     no : (c : Component) (p : Property) (r : RowValue) → ¬ InitialiseSource t S c p r
     no c p r (initialise-source {d = k} x y) = y (subst (λ (z : ℕ). Contains t (data-item № z) requested (truth-row true)) (same-item h x) there)
 
-pub request-more : (s : List ℕ) (d : ℕ) (o : List ℕ) (n : ℕ) (q : List ℕ) (m : ℕ) {b : Bool} → b ≡ requestedF s d → b ≡ false → Pushes o n (65536 + d) 648 2 1 q m → RequestRow s d o n q m
+pub request-more : (s : List ℕ) (d : ℕ) (o : List ℕ) (n : ℕ) (q : List ℕ) (m : ℕ) {b : Bool} → b ≡ requestedF s d → b ≡ false → Asks o n (65536 + d) 648 2 1 q m → RequestRow s d o n q m
 request-more s d o n q m {b} e f h t S rows l i =
     appends-as (λ c p r. (to c p r, back c p r)) (h (data-item № d) requested (truth-row true) (item-code d) requested-at (plain-truth true) refl refl)
   where
@@ -148,6 +161,9 @@ request-more s d o n q m {b} e f h t S rows l i =
 
     back : (c : Component) (p : Property) (r : RowValue) → InitialiseSource t S c p r → One (data-item № d) requested (truth-row true) c p r
     back c p r (initialise-source {d = k} x y) = subst (λ (z : ℕ). One (data-item № d) requested (truth-row true) (data-item № z) requested (truth-row true)) (same-item i x) this
+
+source-requested : {t : Table} {S c : Component} {p : Property} {r : RowValue} → InitialiseSource t S c p r → p ≡ requested
+source-requested (initialise-source x y) = refl
 
 -- the sources from the j-th on, k of them
 pub data Requested (t : Table) (j k : ℕ) (c : Component) (p : Property) (r : RowValue) : Type 0 where
@@ -172,7 +188,7 @@ pub each-more : (s f : List ℕ) (j k i : ℕ) (o : List ℕ) (n : ℕ) (u : Lis
 each-more s f j k i o n u v q m {d} l e h g t rows items =
     let x = items i l in
     let w : RequestRow s (itemAt f (j + i)) u v q m = rw e at g in
-    appends-as (λ c p r. (to c p r, back c p r)) (appends-more (h t rows items) (w t (source № (j + i)) rows (x .0) (x .1)))
+    appends-as (λ c p r. (to c p r, back c p r)) (appends-more (λ c a p r z x y. source-requested y) (h t rows items) (w t (source № (j + i)) rows (x .0) (x .1)))
   where
     to : (c : Component) (p : Property) (r : RowValue) → Either (Requested t j i) (InitialiseSource t (source № (j + i))) c p r → Requested t j (i + 1) c p r
     to c p r (first (requested-by a b y)) = requested-by a (omega arith) y
@@ -238,8 +254,25 @@ StartRows s f now T o n q m = (t : Table) → Startable s f T t → Appends o n 
 pub start-rows : (s f : List ℕ) (now T : ℕ) (o o1 o2 o3 q : List ℕ) (n n1 n2 n3 m : ℕ) → Appends o n o1 n1 (Always now T) → CountRow s T o1 n1 o2 n2 → RequestRows s f T o2 n2 o3 n3 → ProcedureRow f T o3 n3 q m
     → StartRows s f now T o n q m
 start-rows s f now T o o1 o2 o3 q n n1 n2 n3 m a b c d t h =
-    appends-as (λ u p r. (to u p r, back u p r)) (appends-more (appends-more (appends-more a (b t (h .rows) (h .within) (h .countable))) (c t (h .rows) (h .sourced))) (d t (h .action)))
+    appends-as (λ u p r. (to u p r, back u p r)) (appends-more three (appends-more two (appends-more one a (b t (h .rows) (h .within) (h .countable))) (c t (h .rows) (h .sourced))) (d t (h .action)))
   where
+    one : Shared (Always now T) (Counted t T)
+    one u v p r e (first (first (first this))) z = elim z [ ]
+    one u v p r e (first (first (second this))) z = elim z [ ]
+    one u v p r e (first (second this)) z = elim z [ ]
+    one u v p r e (second this) z = elim z [ ]
+
+    two : Shared (Either (Always now T) (Counted t T)) (Requests t T)
+    two u v p r e x (requests k l i z) = source-requested z
+
+    three : Shared (Either (Either (Always now T) (Counted t T)) (Requests t T)) (Unset t T)
+    three u v p r e (first (first (first (first (first this))))) z = elim z [ ]
+    three u v p r e (first (first (first (first (second this))))) z = elim z [ ]
+    three u v p r e (first (first (first (second this)))) z = elim z [ ]
+    three u v p r e (first (first (second this))) z = elim z [ ]
+    three u v p r e (first (second (counted k))) z = elim z [ ]
+    three u v p r e (second (requests k l i z)) y = source-requested z
+
     to : (u : Component) (p : Property) (r : RowValue) → Either (Either (Either (Always now T) (Counted t T)) (Requests t T)) (Unset t T) u p r → Start t now T u p r
     to u p r (first (first (first (first (first (first this)))))) = start-1
     to u p r (first (first (first (first (first (second this)))))) = start-2

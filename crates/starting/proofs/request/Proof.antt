@@ -20,7 +20,7 @@ returns-3 c =
     let a = c .before .before .before .before .before .before .before .before .before .args in
     let f = c .before .before .before .before .if2 .left in
     let g = c .before .before .before .before .before .requested .ensures in
-    (request-more (a .s .now) (a .d) (a .out .now) (a .n) (c .before .before .push .last .0) (c .before .before .push .result) g f (c .before .before .push .ensures .0), omega arith)
+    (request-more (a .s .now) (a .d) (a .out .now) (a .n) (c .before .before .push-once .last .0) (c .before .before .push-once .result) g f (c .before .before .push-once .ensures .0), omega arith)
 
 pub request-spec : {M : Type 1} → statement M
 request-spec =
