@@ -1,0 +1,3 @@
+pub mod Put
+pub mod Item
+pub mod Add
