@@ -3,10 +3,12 @@ use Prim.Native.Nat.{ℕ}
 use mathlib.Core.Path.{_≡_, sym, subst, _∙_}
 use mathlib.Core.Bool.{Bool}
 use mathlib.Core.List.{List}
+use lib.IntN.{ℤ}
 use Rattle.paper_calls.specs.Calls as Calls
-use Calls.{Reply, done, ran, row, refuses, run, set-engine-time, confirm-task, send-trigger, Leaves}
+use Calls.{Reply, done, ran, row, refuses, run, set-engine-time, confirm-task, add-data-value, send-trigger, Leaves}
 use Rattle.paper_calls.specs.Numbers.{ending-number}
 use Rattle.replying.specs.Replying.{Replies}
+use Rattle.value_given.specs.Given.{given}
 use Rattle.runs.specs.declared.Ran.{Ran}
 use Rattle.runs.specs.Run as runs
 use Rattle.exports.specs.declared.Outcome.{Outcome}
@@ -55,6 +57,10 @@ SetsTime time s s′ = Told (λ (r : Reply). (x b f : List ℕ) (w : List (List 
 
 abbrev pub Confirms : ℕ → List ℕ → List ℕ → List ℕ → Outcome → Type 0
 Confirms T f s s′ = Told (λ (r : Reply). (x b : List ℕ) (w : List (List Bool)) → Replies (confirm-task T) x b f w s b s′ r)
+
+-- D the data item; t the tags, n the numbers and v the bytes that are given
+abbrev pub Adds : ℕ → List ℕ → List ℤ → List ℕ → List ℕ → List ℕ → List ℕ → List ℕ → List ℕ → Outcome → Type 0
+Adds D t n v b f s b′ s′ = Told (λ (r : Reply). (x : List ℕ) (w : List (List Bool)) → Replies (add-data-value D (given t n v)) x b f w s b′ s′ r)
 
 abbrev pub Triggers : List ℕ → List ℕ → List ℕ → List ℕ → List ℕ → Outcome → Type 0
 Triggers u b f s s′ = Told (λ (r : Reply). (x : List ℕ) (w : List (List Bool)) → Replies (send-trigger u) x b f w s b s′ r)

@@ -7,7 +7,11 @@ ghost use mathlib.Core.Path.{_≡_};
 ghost use Rattle.square.specs.Square.{squareOf};
 ghost use Rattle.replying.specs.Replying.{published};
 ghost use Rattle.runs.specs.Run.{published as published-run};
-ghost use Rattle.exports.specs.Outcomes.{Tells, Runs, SetsTime, Confirms, Triggers};
+ghost use Rattle.load.specs.Loads.{lent, no-waits};
+ghost use Rattle.loaded.specs.Loaded.{published as published-load};
+ghost use Rattle.exports.specs.Outcomes.{Tells, Runs, SetsTime, Confirms, Adds, Triggers};
+ghost use Rattle.exports.specs.Loading.{Loads};
+ghost use Rattle.exports.specs.Reading.{Reads};
 
 // number: 0, or that of the refusal; place and count: of a refusal; ending: of a run 1 quiet, 2 bounded, 3 exception, with its count of cycles; 0 else.
 #[repr(C)]
@@ -29,6 +33,20 @@ fn told(number: u32, ending: u32, count: u32) -> Outcome
     }
 }
 
+fn loaded(r: load::Reply) -> Outcome
+    ensures { λ a. ⌜ Tells (published-load r) a ⌝ }
+{
+    match r {
+        load::Reply::Done => told(0, 0, 0),
+        load::Reply::Refused(n, place) => Outcome {
+            number: n as u32,
+            ending: 0,
+            count: 0,
+            place: place as u64,
+        },
+    }
+}
+
 fn replied(r: Reply) -> Outcome
     ensures { λ a. ⌜ Tells (published r) a ⌝ }
 {
@@ -47,6 +65,24 @@ fn ran(r: Ran) -> Outcome
         Ran::Exception(k) => told(0, Ending::EXCEPTION, k),
         Ran::Refused(n) => told(n as u32, 0, 0),
     }
+}
+
+#[no_mangle]
+pub extern "C" fn schotterei_load(
+    text: &[u8],
+    rows: &mut [u32],
+    parts: &mut [u32],
+    plan: &mut [u32],
+    waits: &mut [u8; 1024],
+    texts: &mut [u8],
+    state: &mut [u32],
+) -> Outcome
+    ensures { λ r. ⌜ Loads (now (text .entry)) (lent (now (rows .entry)) (now (parts .entry)) (now (plan .entry)) no-waits (now (texts .entry)) (now (state .entry))) (now (rows .exit)) (now (parts .exit)) (now (plan .exit)) (now (waits .exit)) (now (texts .exit)) (now (state .exit)) r ⌝ }
+{
+    let mut w = [[false; 32]; 32];
+    let reply = schotterei::load(text, rows, parts, plan, &mut w, texts, state);
+    *waits = square::pack(w);
+    loaded(reply)
 }
 
 #[no_mangle]
@@ -80,6 +116,21 @@ pub extern "C" fn schotterei_confirm(plan: &[u32], state: &mut [u32], task: u64)
 }
 
 #[no_mangle]
+pub extern "C" fn schotterei_add(
+    texts: &mut [u8],
+    plan: &[u32],
+    state: &mut [u32],
+    item: u64,
+    tags: &[u32],
+    numbers: &[i64],
+    bytes: &[u8],
+) -> Outcome
+    ensures { λ r. ⌜ Adds item (now (tags .entry)) (now (numbers .entry)) (now (bytes .entry)) (now (texts .entry)) (now (plan .entry)) (now (state .entry)) (now (texts .exit)) (now (state .exit)) r ⌝ }
+{
+    replied(schotterei::add(texts, plan, state, item, tags, numbers, bytes))
+}
+
+#[no_mangle]
 pub extern "C" fn schotterei_trigger(
     texts: &[u8],
     plan: &[u32],
@@ -89,4 +140,23 @@ pub extern "C" fn schotterei_trigger(
     ensures { λ r. ⌜ Triggers (now (name .entry)) (now (texts .entry)) (now (plan .entry)) (now (state .entry)) (now (state .exit)) r ⌝ }
 {
     replied(schotterei::trigger(texts, plan, state, name))
+}
+
+#[no_mangle]
+pub extern "C" fn schotterei_read(
+    texts: &[u8],
+    plan: &[u32],
+    waits: &[u8],
+    state: &[u32],
+    kind: u64,
+    component: u64,
+    property: u64,
+    cells: &mut [u32; 34],
+    bytes: &mut [u8; 768],
+) -> row_numbers::Answer
+    ensures { λ r. ⌜ Reads kind component property (now (texts .entry)) (now (plan .entry)) (squareOf (now (waits .entry))) (now (state .entry)) (now (cells .exit)) (now (bytes .exit)) r ⌝ }
+{
+    let w = square::unpack(waits);
+    let row = schotterei::read(plan, w, state, kind, component, property);
+    row_numbers::tell(texts, row, cells, bytes)
 }

@@ -1,10 +1,13 @@
 // The public calls. What is lent to each: `parts`, `plan` and `waits` as load leaves them, the text bytes `texts` and the `state`; see docs/TABLES.md.
 // No call asks anything of its arguments: whatever the tables hold, it is safe, and ends.
 use replying::Reply;
+use row_shown::Row;
 use runs::Ran;
+ghost use Rattle.adding.specs.Add.{Adds};
 ghost use Rattle.clock.specs.Time.{SetsTime};
 ghost use Rattle.confirming.specs.Confirm.{Confirms};
 ghost use Rattle.load.specs.Loads.{lent, Replied};
+ghost use Rattle.row_read.specs.Read.{ReadsRow};
 ghost use Rattle.runs.specs.Run.{Runs};
 ghost use Rattle.triggering.specs.Trigger.{Triggers};
 
@@ -53,9 +56,38 @@ pub fn confirm(plan: &[u32], state: &mut [u32], task: u64) -> Reply
     confirming::confirm(plan, state, task)
 }
 
+// 8.3.6: adds a value to a data item, given by its tags, numbers and bytes.
+pub fn add(
+    texts: &mut [u8],
+    plan: &[u32],
+    state: &mut [u32],
+    item: u64,
+    tags: &[u32],
+    numbers: &[i64],
+    bytes: &[u8],
+) -> Reply
+    ensures { λ r. ⌜ Adds item (now (tags .entry)) (now (numbers .entry)) (now (bytes .entry)) (now (texts .entry)) (now (plan .entry)) (now (state .entry)) (now (texts .exit)) (now (state .exit)) r ⌝ }
+{
+    adding::add(texts, plan, state, item, tags, numbers, bytes)
+}
+
 // 8.3.7: sends a trigger.
 pub fn trigger(texts: &[u8], plan: &[u32], state: &mut [u32], name: &[u8]) -> Reply
     ensures { λ r. ⌜ Triggers (now (name .entry)) (now (texts .entry)) (now (plan .entry)) (now (state .entry)) (now (state .exit)) r ⌝ }
 {
     triggering::trigger(plan, texts, state, name)
+}
+
+// Reads a row: its component by kind and number, and its property, all counted from 0 as section 10 ranks them.
+pub fn read(
+    plan: &[u32],
+    waits: [[bool; 32]; 32],
+    state: &[u32],
+    kind: u64,
+    number: u64,
+    property: u64,
+) -> Row
+    ensures { λ r. ⌜ ReadsRow kind number property (now (plan .entry)) waits (now (state .entry)) r ⌝ }
+{
+    row_read::read(plan, waits, state, kind, number, property)
 }
