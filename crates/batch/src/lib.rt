@@ -2,30 +2,27 @@
 ghost use Prim.Native.Nat.{_<_};
 ghost use lib.ListN.{length};
 ghost use Rattle.batch.specs.Held.{Held};
+use libc::STDERR_FILENO;
 use libc::STDIN_FILENO;
 use libc::STDOUT_FILENO;
 
-// A text of so many bytes, or that there is none.
+// A text of so many bytes; that there is none; or that it could not be read, as it is cut off or longer than the buffer.
 pub enum Next {
     Text(usize),
     Nothing,
+    Unread,
 }
 
-fn wide(b: u8) -> usize
-    ensures { λ r. ⌜ r < 256 ⌝ }
+// Two bytes, the high one first.
+fn pair(high: u8, low: u8) -> usize
+    ensures { λ r. ⌜ r < 65536 ⌝ }
 {
-    b as usize
+    high as usize * 256 + low as usize
 }
 
-// The length that four bytes tell; one too long for any buffer, where it is over 65,535.
+// The length that four bytes tell.
 fn length_of(head: [u8; 4]) -> usize {
-    if head[0] != 0 {
-        return 65537;
-    }
-    if head[1] != 0 {
-        return 65537;
-    }
-    wide(head[2]) * 256 + wide(head[3])
+    pair(head[0], head[1]) * 65_536 + pair(head[2], head[3])
 }
 
 // Reads n bytes, where the input and the buffer have so many.
@@ -33,10 +30,10 @@ fn read_text(text: &mut [u8], n: usize) -> Next
     ensures { λ r. ⌜ Held (length (now (text .exit))) r ⌝ }
 {
     if text.len() < n {
-        return Next::Nothing;
+        return Next::Unread;
     }
     if io::read_full(STDIN_FILENO, &mut text[..n]) < n {
-        return Next::Nothing;
+        return Next::Unread;
     }
     Next::Text(n)
 }
@@ -46,11 +43,24 @@ pub fn next_text(text: &mut [u8]) -> Next
     ensures { λ r. ⌜ Held (length (now (text .exit))) r ⌝ }
 {
     let mut head = [0u8; 4];
-    if io::read_full(STDIN_FILENO, &mut head) < 4 {
+    let got = io::read_full(STDIN_FILENO, &mut head);
+    if got == 0 {
         return Next::Nothing;
+    }
+    if got < 4 {
+        return Next::Unread;
     }
     let n = length_of(head);
     read_text(text, n)
+}
+
+// Says that a text could not be read, and that no other is.
+pub fn unread() -> bool {
+    io::write_all(
+        STDERR_FILENO,
+        b"a text of the batch is cut off, or longer than the buffer\n",
+    );
+    false
 }
 
 // The line of a refused text.

@@ -83,7 +83,7 @@ fn confirm(s: &[u8], at: usize) -> Line {
     }
 }
 
-fn add(s: &[u8], at: usize, tags: &mut [u32], numbers: &mut [u32], bytes: &mut [u8]) -> Line {
+fn add(s: &[u8], at: usize, tags: &mut [u32], numbers: &mut [i64], bytes: &mut [u8]) -> Line {
     let item = number_at(s, at, NARROW, b' ');
     let end = value(s, item.next, tags, numbers, bytes);
     Line {
@@ -154,7 +154,7 @@ pub fn line_at(
     s: &[u8],
     at: usize,
     tags: &mut [u32],
-    numbers: &mut [u32],
+    numbers: &mut [i64],
     bytes: &mut [u8],
 ) -> Line {
     let p = after(s, at);

@@ -1,4 +1,4 @@
-// Values, into cells and bytes as docs/TABLES.md has those of a data item: tags and numbers, first that of the shape, and texts by their handles.
+// Values, into tags, numbers and bytes as the call that adds a value is given them: first the shape, then the elements, with texts by their handles.
 use crate::lexemes::NOWHERE;
 use crate::lexemes::Text;
 use crate::lexemes::after;
@@ -6,8 +6,8 @@ use crate::lexemes::behind;
 use crate::lexemes::digits;
 use crate::lexemes::text_at;
 use blocks::put_cell;
-use numbers::Num;
 use parts::byte;
+ghost use Prim.Native.Nat.{_≤_};
 
 // The most that a script has of each.
 pub struct Given {}
@@ -33,7 +33,7 @@ impl Given {
 // One element: its cells, and the place behind it.
 struct Element {
     tag: u32,
-    number: u32,
+    number: i64,
     next: usize,
 }
 
@@ -66,16 +66,22 @@ fn truth(s: &[u8], at: usize) -> Element {
     }
 }
 
-// The cell of a number: one beyond every limit stands for all that are.
-fn moved(minus: bool, n: u64) -> u32 {
-    let zero = Num::REAL_LIMIT as u64;
-    if zero < n {
-        return u32::MAX;
+// A number below zero.
+fn negative(n: u64) -> i64
+    requires { ⌜ n ≤ 4611686018427387903 ⌝ }
+{
+    0 - n as i64
+}
+
+// A number with its sign; no script has one beyond the greatest.
+fn whole(minus: bool, n: u64) -> i64 {
+    if Given::REAL < n {
+        return 0;
     }
     if minus {
-        return (zero - n) as u32;
+        return negative(n);
     }
-    (zero + n) as u32
+    n as i64
 }
 
 // A number with its sign, up to its limit.
@@ -94,7 +100,7 @@ fn unsigned(s: &[u8], at: usize, tag: u32, limit: u64, minus: bool) -> Element {
     }
     Element {
         tag: tag,
-        number: moved(minus, d.value),
+        number: whole(minus, d.value),
         next: d.next,
     }
 }
@@ -122,14 +128,14 @@ fn spelt(s: &[u8], at: usize, bytes: &mut [u8], i: usize) -> Element {
 }
 
 // The handle of a text of `n` bytes at a place.
-fn handle(place: usize, n: usize) -> u32 {
+fn handle(place: usize, n: usize) -> i64 {
     if Given::BYTES < place {
         return 0;
     }
     if Text::KEPT < n {
         return 0;
     }
-    (place * Given::TEXT + n) as u32
+    (place * Given::TEXT + n) as i64
 }
 
 // The i-th element.
@@ -149,12 +155,19 @@ fn element_at(s: &[u8], at: usize, bytes: &mut [u8], i: usize) -> Element {
     }
 }
 
+// The number of an element.
+fn put_number(numbers: &mut [i64], i: usize, n: i64) {
+    if i < numbers.len() {
+        numbers[i] = n;
+    }
+}
+
 // Reads the i-th element into its cells: the place behind it.
 fn put_element(
     s: &[u8],
     at: usize,
     tags: &mut [u32],
-    numbers: &mut [u32],
+    numbers: &mut [i64],
     bytes: &mut [u8],
     i: usize,
 ) -> usize {
@@ -163,7 +176,7 @@ fn put_element(
     }
     let e = element_at(s, at, bytes, i);
     put_cell(tags, 1 + i, e.tag);
-    put_cell(numbers, 1 + i, e.number);
+    put_number(numbers, 1 + i, e.number);
     e.next
 }
 
@@ -172,7 +185,7 @@ fn next_element(
     s: &[u8],
     at: usize,
     tags: &mut [u32],
-    numbers: &mut [u32],
+    numbers: &mut [i64],
     bytes: &mut [u8],
     i: usize,
 ) -> usize {
@@ -191,7 +204,7 @@ fn closed(s: &[u8], at: usize, tags: &mut [u32], n: usize) -> usize {
     behind(s, at, b")")
 }
 
-fn list(s: &[u8], at: usize, tags: &mut [u32], numbers: &mut [u32], bytes: &mut [u8]) -> usize {
+fn list(s: &[u8], at: usize, tags: &mut [u32], numbers: &mut [i64], bytes: &mut [u8]) -> usize {
     let mut p = at;
     let mut n = 0usize;
     while n < Given::ELEMENTS {
@@ -209,7 +222,7 @@ pub fn value(
     s: &[u8],
     at: usize,
     tags: &mut [u32],
-    numbers: &mut [u32],
+    numbers: &mut [i64],
     bytes: &mut [u8],
 ) -> usize {
     let p = behind(s, at, b"l(");

@@ -1,8 +1,8 @@
 // The answers to calls, a line each.
-use crate::buffer::newline;
-use crate::buffer::word;
 use crate::rows::refused;
 use replying::Reply;
+use transcript_values::buffer::newline;
+use transcript_values::buffer::word;
 
 // Of a call that sets something.
 pub fn replied(r: Reply, out: &mut [u8], o: usize) -> usize {

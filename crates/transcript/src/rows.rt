@@ -1,12 +1,13 @@
 // What reading a row answers.
-use crate::buffer::byte;
-use crate::buffer::newline;
-use crate::buffer::next_number;
-use crate::buffer::number;
-use crate::buffer::word;
-use crate::literals::value;
+use row_shown::Class;
 use row_shown::Row;
 use row_shown::Shown;
+use transcript_values::buffer::byte;
+use transcript_values::buffer::newline;
+use transcript_values::buffer::next_number;
+use transcript_values::buffer::number;
+use transcript_values::buffer::word;
+use transcript_values::literals::value;
 
 // A refusal, with its number and its place.
 pub fn refused(n: u8, place: usize, out: &mut [u8], o: usize) -> usize {
@@ -27,10 +28,10 @@ fn state(n: u32, out: &mut [u8], o: usize) -> usize {
 // The classes that a load gives.
 fn class(n: u32, out: &mut [u8], o: usize) -> usize {
     match n {
-        1 => word(b"data_item", out, o),
-        3 => word(b"plan", out, o),
-        5 => word(b"enquiry", out, o),
-        6 => word(b"action", out, o),
+        Class::DATA_ITEM => word(b"data_item", out, o),
+        Class::PLAN => word(b"plan", out, o),
+        Class::ENQUIRY => word(b"enquiry", out, o),
+        Class::ACTION => word(b"action", out, o),
         _ => word(b"source", out, o),
     }
 }

@@ -3,8 +3,8 @@ use Prim.Native.Nat.{_-_}
 use mathlib.Core.Path.{_≡_}
 use lib.ListN.{length}
 use borrow.Author.Needs.{needs}
-use Rattle.transcript.proofs.literals.list.Statement.{statement}
-use Rattle.transcript.proofs.literals.list.Tie as tie
+use Rattle.transcript_values.proofs.literals.list.Statement.{statement}
+use Rattle.transcript_values.proofs.literals.list.Tie as tie
 
 abbrev Inv-loop : tie.InvT-loop
 Inv-loop bytes l out₀ o p₀ n i₀ out p i = length out ≡ length out₀

@@ -3,8 +3,8 @@ use Prim.Native.Nat.{_-_}
 use mathlib.Core.Path.{_≡_}
 use lib.ListN.{length}
 use borrow.Author.Needs.{needs}
-use Rattle.transcript.proofs.buffer.word.Statement.{statement}
-use Rattle.transcript.proofs.buffer.word.Tie as tie
+use Rattle.transcript_values.proofs.buffer.word.Statement.{statement}
+use Rattle.transcript_values.proofs.buffer.word.Tie as tie
 
 abbrev Inv-loop : tie.InvT-loop
 Inv-loop w out₀ o p₀ i₀ out p i = length out ≡ length out₀

@@ -2,8 +2,8 @@
 use native.Mathlib.Omega.{arith}
 use lib.ListN.{length-take}
 use borrow.Author.Needs.{needs}
-use Rattle.transcript.proofs.buffer.flush.Statement.{statement}
-use Rattle.transcript.proofs.buffer.flush.Tie as tie
+use Rattle.transcript_values.proofs.buffer.flush.Statement.{statement}
+use Rattle.transcript_values.proofs.buffer.flush.Tie as tie
 
 slice-aggregate-write-all : tie.Need-slice-aggregate-write-all
 slice-aggregate-write-all c = simp length-take (omega arith)

@@ -2,8 +2,8 @@
 use native.Mathlib.Omega.{arith}
 use lib.ListN.{length-take}
 use borrow.Author.Needs.{needs}
-use Rattle.transcript.proofs.literals.first.Statement.{statement}
-use Rattle.transcript.proofs.literals.first.Tie as tie
+use Rattle.transcript_values.proofs.literals.first.Statement.{statement}
+use Rattle.transcript_values.proofs.literals.first.Tie as tie
 
 slice-aggregate-word : tie.Need-slice-aggregate-word
 slice-aggregate-word c = simp length-take (omega arith)

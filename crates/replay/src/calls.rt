@@ -1,0 +1,221 @@
+// The calls of a script, each answered by the public call of its name.
+use crate::rows::all;
+use limits::Rows;
+use runs::Ran;
+use script::Call;
+use script::Given;
+use script::Line;
+use transcript::buffer::newline;
+use transcript::buffer::next_number;
+use transcript::buffer::word;
+use transcript::refused_line;
+use transcript::replied;
+use transcript::shown;
+
+// The most rows that a script lends, and their cells.
+const ROWS_LENT: u64 = 8_192;
+
+const CELLS_LENT: usize = 32_768;
+
+// A cell of a row that is not blank.
+const HELD: u32 = 7;
+
+// The place behind a line, and that behind its answer in the buffer.
+pub struct Answered {
+    pub next: usize,
+    pub o: usize,
+}
+
+// The text from `from` to `to`.
+fn load(
+    s: &[u8],
+    from: usize,
+    to: usize,
+    parts: &mut [u32],
+    plan: &mut [u32],
+    waits: &mut [[bool; 32]; 32],
+    texts: &mut [u8],
+    state: &mut [u32],
+    out: &mut [u8],
+    o: usize,
+) -> usize {
+    if to < from {
+        return o;
+    }
+    if s.len() < to {
+        return o;
+    }
+    let mut rows = [0u32; Rows::CELLS];
+    match schotterei::load(&s[from..to], &mut rows, parts, plan, waits, texts, state) {
+        load::Reply::Done => word(b"loaded\n", out, o),
+        load::Reply::Refused(n, place) => refused_line(n, place, out, o),
+    }
+}
+
+// How a run ended, and the number of its cycles.
+fn ended(how: &[u8], cycles: u32, out: &mut [u8], o: usize) -> usize {
+    let p = word(how, out, o);
+    let q = next_number(cycles as u64, out, p);
+    newline(out, q)
+}
+
+fn ran(r: Ran, out: &mut [u8], o: usize) -> usize {
+    match r {
+        Ran::Quiet(n) => ended(b"quiet", n, out, o),
+        Ran::Bounded(n) => ended(b"bounded", n, out, o),
+        Ran::Exception(n) => ended(b"exception", n, out, o),
+        Ran::Refused(n) => refused_line(n, 0, out, o),
+    }
+}
+
+// Runs with the first cells of a Changes table.
+fn run_first(
+    parts: &[u32],
+    texts: &mut [u8],
+    plan: &[u32],
+    waits: [[bool; 32]; 32],
+    state: &mut [u32],
+    changes: &mut [u32],
+    n: usize,
+    bound: u64,
+) -> Ran {
+    if changes.len() < n {
+        return Ran::Refused(6);
+    }
+    schotterei::run(parts, texts, plan, waits, state, &mut changes[..n], bound)
+}
+
+// Runs with so many rows that are lent, which hold something.
+fn run(
+    parts: &[u32],
+    texts: &mut [u8],
+    plan: &[u32],
+    waits: [[bool; 32]; 32],
+    state: &mut [u32],
+    lent: u64,
+    bound: u64,
+) -> Ran {
+    if ROWS_LENT < lent {
+        return Ran::Refused(6);
+    }
+    let mut changes = [HELD; CELLS_LENT];
+    run_first(
+        parts,
+        texts,
+        plan,
+        waits,
+        state,
+        &mut changes,
+        lent as usize * 4,
+        bound,
+    )
+}
+
+// Sends the first n bytes.
+fn trigger(
+    texts: &[u8],
+    plan: &[u32],
+    state: &mut [u32],
+    bytes: &[u8],
+    n: usize,
+    out: &mut [u8],
+    o: usize,
+) -> usize {
+    if bytes.len() < n {
+        return o;
+    }
+    replied(schotterei::trigger(texts, plan, state, &bytes[..n]), out, o)
+}
+
+// The line of a row's value.
+fn row(
+    texts: &[u8],
+    plan: &[u32],
+    waits: [[bool; 32]; 32],
+    state: &[u32],
+    kind: u64,
+    number: u64,
+    property: u64,
+    out: &mut [u8],
+    o: usize,
+) -> usize {
+    let r = schotterei::read(plan, waits, state, kind, number, property);
+    let p = shown(texts, r, out, o);
+    newline(out, p)
+}
+
+// The answer to the call of a line.
+fn answer(
+    l: Line,
+    s: &[u8],
+    tags: &[u32],
+    numbers: &[i64],
+    bytes: &[u8],
+    parts: &mut [u32],
+    plan: &mut [u32],
+    waits: &mut [[bool; 32]; 32],
+    texts: &mut [u8],
+    state: &mut [u32],
+    out: &mut [u8],
+    o: usize,
+) -> usize {
+    let c = l.call;
+    match c {
+        Call::Load(from, to) => load(s, from, to, parts, plan, waits, texts, state, out, o),
+        Call::Run(bound, lent) => ran(run(parts, texts, plan, *waits, state, lent, bound), out, o),
+        Call::Time(time) => replied(schotterei::set_time(state, time), out, o),
+        Call::Confirm(task) => replied(schotterei::confirm(plan, state, task), out, o),
+        Call::Add(item) => replied(
+            schotterei::add(texts, plan, state, item, tags, numbers, bytes),
+            out,
+            o,
+        ),
+        Call::Trigger(n) => trigger(texts, plan, state, bytes, n, out, o),
+        Call::Row(kind, number, property) => row(
+            texts,
+            plan,
+            *waits,
+            state,
+            kind,
+            number,
+            property,
+            out,
+            o,
+        ),
+        Call::Rows => all(texts, plan, *waits, state, out, o),
+    }
+}
+
+// The answer to the line that begins here.
+pub fn line(
+    s: &[u8],
+    at: usize,
+    parts: &mut [u32],
+    plan: &mut [u32],
+    waits: &mut [[bool; 32]; 32],
+    texts: &mut [u8],
+    state: &mut [u32],
+    out: &mut [u8],
+    o: usize,
+) -> Answered {
+    let mut tags = [0u32; Given::CELLS];
+    let mut numbers = [0i64; Given::CELLS];
+    let mut bytes = [0u8; Given::BYTES];
+    let l = script::line_at(s, at, &mut tags, &mut numbers, &mut bytes);
+    let next = l.next;
+    let p = answer(
+        l,
+        s,
+        &tags,
+        &numbers,
+        &bytes,
+        parts,
+        plan,
+        waits,
+        texts,
+        state,
+        out,
+        o,
+    );
+    Answered { next: next, o: p }
+}

@@ -1,0 +1,4 @@
+// A lent buffer before standard output, and values as replay writes them into it: docs/REPLAY.md.
+// Each function answers the place in the buffer behind what it wrote.
+pub mod buffer;
+pub mod literals;
