@@ -6,3 +6,4 @@ mod scalars;
 pub use answers::Answer;
 pub use answers::gives;
 pub use answers::refused;
+pub use lists::value;

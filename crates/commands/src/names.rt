@@ -1,0 +1,78 @@
+// Names as guidelines write them: bare, or between single quotes.
+use parts::byte;
+use typed_value::lexemes::after;
+use typed_value::lexemes::word_end;
+ghost use Rattle.typed_value.specs.Onward.{Onward};
+
+// Where a name begins and ends, without its quotes, and the place behind it; whether there is one.
+pub struct Name {
+    pub there: bool,
+    pub from: usize,
+    pub to: usize,
+    pub next: usize,
+}
+
+// No name, at a place.
+pub fn none(at: usize) -> Name {
+    Name {
+        there: false,
+        from: at,
+        to: at,
+        next: at,
+    }
+}
+
+// Whether a quote closes that stands behind this byte: behind a backslash none does.
+fn closes(before: u8, b: u8) -> bool {
+    if before == b'\\' {
+        return false;
+    }
+    b == b'\''
+}
+
+// The place of the quote that closes the name from here on, or the end.
+fn close(s: &[u8], from: usize) -> usize
+    ensures { λ r. ⌜ Onward (now (s .entry)) from r ⌝ }
+{
+    let mut before = b'\'';
+    let mut p = from;
+    while p < s.len() {
+        if closes(before, s[p]) {
+            return p;
+        }
+        before = s[p];
+        p += 1;
+    }
+    p
+}
+
+// A name behind its opening quote.
+fn quoted(s: &[u8], from: usize) -> Name {
+    let to = close(s, from);
+    if s.len() <= to {
+        return none(from);
+    }
+    Name {
+        there: true,
+        from: from,
+        to: to,
+        next: to + 1,
+    }
+}
+
+// The name that stands here.
+pub fn name_at(s: &[u8], at: usize) -> Name {
+    if byte(s, at) == b'\'' {
+        return quoted(s, after(s, at));
+    }
+    let to = word_end(s, at);
+    if to <= at {
+        return none(at);
+    }
+    Name {
+        there: true,
+        from: at,
+        to: to,
+        next: to,
+    }
+}

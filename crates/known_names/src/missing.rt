@@ -1,0 +1,68 @@
+// What is told of a name that nothing has.
+use crate::lookup::Sort;
+use crate::lookup::count;
+use crate::lookup::first;
+use crate::lookup::handle_of;
+use crate::lookup::is_there;
+use sentences::slips;
+use sentences::write;
+
+fn sort(s: Sort) {
+    match s {
+        Sort::Task => write::text(b"task"),
+        Sort::Item => write::text(b"data item"),
+        Sort::Trigger => write::text(b"trigger"),
+    }
+}
+
+// The name of the i-th.
+pub fn tell(rows: &[u32], texts: &[u8], plan: &[u32], s: Sort, i: usize) {
+    slips::name(texts, handle_of(rows, plan, s, i));
+}
+
+// The i-th behind a blank, if there is one.
+fn listed(rows: &[u32], texts: &[u8], plan: &[u32], s: Sort, i: usize) {
+    if is_there(plan, s, i) {
+        write::text(b" ");
+        tell(rows, texts, plan, s, i);
+    }
+}
+
+// All of them.
+fn list(rows: &[u32], texts: &[u8], plan: &[u32], s: Sort) {
+    write::text(b" Each ");
+    sort(s);
+    write::text(b":");
+    let n = count(plan, s);
+    let mut i = 0usize;
+    while i < n {
+        listed(rows, texts, plan, s, i);
+        i += 1;
+    }
+    write::text(b".");
+}
+
+// The one that is a slip away, or all of them.
+fn nearest(rows: &[u32], texts: &[u8], plan: &[u32], s: Sort, name: &[u8]) {
+    let i = first(rows, texts, plan, s, name, true);
+    if count(plan, s) <= i {
+        list(rows, texts, plan, s);
+        return;
+    }
+    write::text(b" There is a ");
+    sort(s);
+    write::text(b" ");
+    tell(rows, texts, plan, s, i);
+    write::text(b", a letter off.");
+}
+
+// That nothing has the name.
+pub fn none(rows: &[u32], texts: &[u8], plan: &[u32], s: Sort, name: &[u8]) {
+    write::text(b"No ");
+    sort(s);
+    write::text(b" is named ");
+    write::part(name, 0, name.len());
+    write::text(b".");
+    nearest(rows, texts, plan, s, name);
+    write::text(b"\n");
+}

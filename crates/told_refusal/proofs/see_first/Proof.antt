@@ -1,0 +1,12 @@
+-- `see_first` is safe: the first n of at least n bytes are n.
+use native.Mathlib.Omega.{arith}
+use lib.ListN.{length-take}
+use borrow.Author.Needs.{needs}
+use Rattle.told_refusal.proofs.see_first.Statement.{statement}
+use Rattle.told_refusal.proofs.see_first.Tie as tie
+
+slice-aggregate-see : tie.Need-slice-aggregate-see
+slice-aggregate-see c = simp length-take (omega arith)
+
+pub see-first-spec : {M : Type 1} → statement M
+see-first-spec = tie.close (tie.spec (λ c. search needs) slice-aggregate-see (λ c κs. search needs) (λ c. search needs))
