@@ -1,0 +1,20 @@
+-- `is_name` is safe and ends: the measure is what is left.
+use borrow.Author.Needs.{needs}
+use Prim.Native.Nat.{_-_}
+use lib.ListN.{length}
+use Rattle.headings.proofs.found.is_name.Statement.{statement}
+use Rattle.headings.proofs.found.is_name.Tie as tie
+
+abbrev Inv-loop : tie.InvT-loop
+Inv-loop texts h name i₀ i = Unit {0}
+
+abbrev μ-loop : tie.MeasureT-loop
+μ-loop texts h name i₀ i = length name - i
+
+pub is-name-spec : {M : Type 1} → statement M
+is-name-spec =
+    tie.close
+    (tie.spec
+    Inv-loop
+    μ-loop
+    (λ c. search needs) (λ c. search needs) (λ c κs. search needs) (λ c. search needs) (λ c κs. search needs) (λ c. search needs) (λ c. search needs) (λ c. search needs) (λ c. search needs) (λ c. search needs))

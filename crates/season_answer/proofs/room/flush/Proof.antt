@@ -1,0 +1,15 @@
+-- `flush` is safe.
+use borrow.Author.Needs.{needs}
+use native.Mathlib.Omega.{arith}
+use lib.ListN.{length-take}
+use Rattle.season_answer.proofs.room.flush.Statement.{statement}
+use Rattle.season_answer.proofs.room.flush.Tie as tie
+
+slice-aggregate-write-all : tie.Need-slice-aggregate-write-all
+slice-aggregate-write-all c = simp length-take (omega arith)
+
+pub flush-spec : {M : Type 1} → statement M
+flush-spec =
+    tie.close
+    (tie.spec
+    (λ c. search needs) slice-aggregate-write-all (λ c κs. search needs) (λ c. search needs))

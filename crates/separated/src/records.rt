@@ -1,0 +1,188 @@
+// Records as they come in chunks: the bytes of their fields are kept one behind the other in a lent buffer, without quotes, and beside them
+// where each field ends.
+use crate::machine::Act;
+use crate::machine::Byte;
+use crate::machine::Mode;
+use crate::machine::kind_of;
+use crate::machine::step;
+ghost use Prim.Native.Nat.{_<_, _≤_};
+ghost use lib.ListN.{length};
+
+pub struct Fault {}
+
+// Why a line is no record.
+impl Fault {
+    pub const NONE: u8 = 0;
+
+    // a quote inside a field that has none around it
+    pub const QUOTE_INSIDE: u8 = 1;
+
+    // something behind the quote that closes a field
+    pub const BEHIND_QUOTE: u8 = 2;
+
+    // a carriage return without its newline
+    pub const LONE_RETURN: u8 = 3;
+
+    // a quote that nothing closes
+    pub const OPEN: u8 = 4;
+
+    // more bytes, or more fields, than are kept
+    pub const TOO_LONG: u8 = 5;
+
+    pub const TOO_MANY: u8 = 6;
+}
+
+// How far reading has come: in the record (bytes kept, fields ended, whether it began, whether it ended, what is wrong with it and in which
+// field), and in the input (lines that ended).
+pub struct Scan {
+    pub mode: Mode,
+    pub n: usize,
+    pub fields: usize,
+    pub began: bool,
+    pub done: bool,
+    pub fault: u8,
+    pub wrong: usize,
+    pub lines: u64,
+}
+
+// The same, and the place in the chunk where to go on.
+pub struct Taken {
+    pub at: usize,
+    pub scan: Scan,
+}
+
+// A new record, behind so many lines.
+pub fn begin(lines: u64) -> Scan {
+    Scan {
+        mode: Mode::Before,
+        n: 0,
+        fields: 0,
+        began: false,
+        done: false,
+        fault: Fault::NONE,
+        wrong: 0,
+        lines: lines,
+    }
+}
+
+fn one_more(n: u64) -> u64 {
+    if n == u64::MAX {
+        return n;
+    }
+    n + 1
+}
+
+fn lines_with(n: u64, b: u8) -> u64 {
+    if b == Byte::NEWLINE {
+        return one_more(n);
+    }
+    n
+}
+
+// The mode behind the byte `b`.
+fn moved(s: Scan, mode: Mode, b: u8) -> Scan {
+    Scan {
+        mode: mode,
+        n: s.n,
+        fields: s.fields,
+        began: true,
+        done: false,
+        fault: s.fault,
+        wrong: s.wrong,
+        lines: lines_with(s.lines, b),
+    }
+}
+
+// The first thing that is wrong counts.
+fn spoilt(mut s: Scan, fault: u8) -> Scan {
+    if s.fault == Fault::NONE {
+        s.fault = fault;
+        s.wrong = s.fields;
+    }
+    s
+}
+
+fn fault_in(m: Mode) -> u8 {
+    match m {
+        Mode::Before => Fault::NONE,
+        Mode::Bare => Fault::QUOTE_INSIDE,
+        Mode::Quoted => Fault::OPEN,
+        Mode::Closed => Fault::BEHIND_QUOTE,
+        Mode::Returned => Fault::LONE_RETURN,
+        Mode::Lost => Fault::NONE,
+    }
+}
+
+fn keep(mut s: Scan, b: u8, kept: &mut [u8]) -> Scan {
+    let n = s.n;
+    if kept.len() <= n {
+        return spoilt(s, Fault::TOO_LONG);
+    }
+    kept[n] = b;
+    s.n = n + 1;
+    s
+}
+
+fn end_field(mut s: Scan, ends: &mut [usize]) -> Scan {
+    let k = s.fields;
+    if ends.len() <= k {
+        return spoilt(s, Fault::TOO_MANY);
+    }
+    ends[k] = s.n;
+    s.fields = k + 1;
+    s
+}
+
+fn end_record(s: Scan, ends: &mut [usize]) -> Scan {
+    let mut t = end_field(s, ends);
+    t.done = true;
+    t
+}
+
+// One byte more.
+fn advance(s: Scan, b: u8, separator: u8, kept: &mut [u8], ends: &mut [usize]) -> Scan {
+    let mode = s.mode;
+    let m = step(mode, kind_of(b, separator));
+    let next = m.mode;
+    let act = m.act;
+    let t = moved(s, next, b);
+    match act {
+        Act::Keep => keep(t, b, kept),
+        Act::Pass => t,
+        Act::End => end_field(t, ends),
+        Act::Last => end_record(t, ends),
+        Act::Fault => spoilt(t, fault_in(mode)),
+    }
+}
+
+// The bytes of a chunk from a place on, up to the record's end or the chunk's.
+pub fn take(
+    chunk: &[u8],
+    from: usize,
+    begun: Scan,
+    separator: u8,
+    kept: &mut [u8],
+    ends: &mut [usize],
+) -> Taken
+    ensures { λ r. ⌜ (from ≤ r .at) × (from < length (now (chunk .entry)) → from < r .at) ⌝ }
+{
+    let mut at = from;
+    let mut s = begun;
+    while at < chunk.len() {
+        s = advance(s, chunk[at], separator, kept, ends);
+        at += 1;
+        if s.done {
+            return Taken { at: at, scan: s };
+        }
+    }
+    Taken { at: at, scan: s }
+}
+
+// The end of the input, where a record began: it ends there too.
+pub fn finish(s: Scan, ends: &mut [usize]) -> Scan {
+    let mode = s.mode;
+    match mode {
+        Mode::Before | Mode::Bare | Mode::Closed | Mode::Lost => end_record(s, ends),
+        Mode::Quoted | Mode::Returned => end_record(spoilt(s, fault_in(mode)), ends),
+    }
+}

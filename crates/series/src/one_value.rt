@@ -1,0 +1,60 @@
+// The value of one field.
+use field_values::Refusal;
+use replying::Reply;
+use state::Plan;
+use typed_value::Room;
+
+// What the call of add replies to the cells of a field.
+fn add_cells(
+    texts: &mut [u8],
+    plan: &[u32],
+    state: &mut [u32],
+    item: u32,
+    tags: &[u32],
+    numbers: &[i64],
+    bytes: &[u8],
+) -> u8 {
+    match schotterei::add(texts, plan, state, item as u64, tags, numbers, bytes) {
+        Reply::Done => Refusal::NONE,
+        Reply::Refused(number) => number,
+    }
+}
+
+// The field goes to these cells and bytes, which are blank, and is added.
+fn through(
+    texts: &mut [u8],
+    plan: &[u32],
+    state: &mut [u32],
+    item: u32,
+    field: &[u8],
+    tags: &mut [u32],
+    numbers: &mut [i64],
+    bytes: &mut [u8],
+) -> u8 {
+    let declared = blocks::cell(plan, Plan::ITEM_TYPE + item as usize);
+    let refused = field_values::read(declared, field, tags, numbers, bytes);
+    if refused != Refusal::NONE {
+        return refused;
+    }
+    add_cells(texts, plan, state, item, tags, numbers, bytes)
+}
+
+// Adds the field as the value of the data item, nothing if it is empty: the number of the refusal, or none.
+pub fn add(texts: &mut [u8], plan: &[u32], state: &mut [u32], item: u32, field: &[u8]) -> u8 {
+    if field.len() == 0 {
+        return Refusal::NONE;
+    }
+    let mut tags = [0u32; Room::CELLS];
+    let mut numbers = [0i64; Room::CELLS];
+    let mut bytes = [0u8; Room::BYTES];
+    through(
+        texts,
+        plan,
+        state,
+        item,
+        field,
+        &mut tags,
+        &mut numbers,
+        &mut bytes,
+    )
+}
