@@ -1,71 +1,57 @@
 -- From what the tests of names and types find to the answer and the tables; and that only one reply fits.
-use Prim.Native.Nat.{ℕ, _*_, _≤_, _<_}
+use Prim.Native.Nat.{ℕ, _≤_}
 use native.Mathlib.Omega.{arith}
-use native.Mathlib.Decide.{decLt}
 use mathlib.Core.Path.{_≡_, refl, sym, ap, subst, _∙_}
 use mathlib.Core.List.{List}
 use lib.ListN.{length, replicate}
-use Rattle.paper_guideline.specs.Limits.{token-limit, task-limit, data-item-limit}
-use Rattle.paper_guideline.specs.Structure.{TopLevel, tasks, data-items}
+use Rattle.paper_guideline.specs.Limits.{task-limit}
+use Rattle.paper_guideline.specs.Structure.{TopLevel, tasks}
 use Rattle.paper_guideline.specs.Names.{NameBreach}
 use Rattle.paper_guideline.specs.Refusals as Refusals
 use Rattle.paper_guideline.specs.Laws.RefusalLaws.{one-answer}
+use Rattle.paper_guideline.specs.Laws.StageTwin.{one-read}
 use Rattle.parts.specs.Part.{Table, table}
 use Rattle.guideline_rows.specs.Rows.{flatten}
 use Rattle.guideline_rows.specs.Encoded.{Encoded}
-use Rattle.guideline_rows.specs.FlatLaws.{few-rows}
-use Rattle.guideline_rows.specs.InLimits.{InLimits}
 use Rattle.guideline_rows.specs.LimitLaws.{in-limits}
 use Rattle.guideline_rows.specs.OneEncoding.{AsLong, one-encoding}
 use Rattle.row_names.specs.Shape.{structure-shaped}
 use Rattle.row_tests.specs.declared.Found.{Found}
 use Rattle.row_tests.specs.declared.Found.the-variants as Found
-use Rattle.row_tests.specs.Table.{row-limit}
 use Rattle.row_tests.specs.EncodedSheet.{encoded-agrees}
 use Rattle.names.specs.Verdict as Names
 use Rattle.types.specs.Judged as Types
+use Rattle.types.specs.Load.{within, rows-within, items-within, given-of}
 use Rattle.stages.specs.Stages.{Passed}
 use Rattle.stages.specs.Judged.{Short, is-short, Empty, Accepted}
 use Rattle.reading.specs.declared.Reading.{Reading}
 use Rattle.reading.specs.declared.Reading.the-variants as Reading
 use Rattle.reading.specs.Reply as Reads
+use Rattle.reading.specs.Laws.{same-refusal}
 use Rattle.answering.specs.declared.Answer.{Answer}
 use Rattle.answering.specs.declared.Answer.the-variants as Answer
 use Rattle.answering.specs.Reply.{Loaded, Reply, Answered, Passing, Outcome, Typed, Named}
-use Rattle.answering.specs.Stages.{one-reading, never-both, name-refused, name-passed, type-refused, type-passed}
+use Rattle.answering.specs.Stages.{never-both, name-refused, name-passed, type-refused, type-passed}
 
 -- ---- what the limits give
 
 module _ {S : Type 0} {text x : List ℕ} {t : Table} {n k : ℕ} {g : List TopLevel} (h : Passing S text x t n k g) (far : 5 ≤ k) where
+  counts : (p : ℕ) → ¬ Refusals.Breach S text Refusals.count-stage p
+  counts p = h .passed Refusals.count-stage p (omega arith)
+
+  limits : (p : ℕ) → ¬ Refusals.Breach S text Refusals.limit-stage p
+  limits p = h .passed Refusals.limit-stage p (omega arith)
+
   few-tasks : length (tasks g) ≤ task-limit
-  few-tasks = go (decLt task-limit (length (tasks g)))
-    where
-      go : Dec (task-limit < length (tasks g)) → length (tasks g) ≤ task-limit
-      go (yes l) = absurd (h .passed Refusals.limit-stage (length text) (omega arith) (Refusals.many-tasks (h .read) l))
-      go (no l) = omega arith
-
-  few-items : length (data-items g) ≤ data-item-limit
-  few-items = go (decLt data-item-limit (length (data-items g)))
-    where
-      go : Dec (data-item-limit < length (data-items g)) → length (data-items g) ≤ data-item-limit
-      go (yes l) = absurd (h .passed Refusals.limit-stage (length text) (omega arith) (Refusals.many-data-items (h .read) l))
-      go (no l) = omega arith
-
-  rows-fit : n ≤ row-limit
-  rows-fit = go (decLt token-limit (length (h .read .tokens)))
-    where
-      go : Dec (token-limit < length (h .read .tokens)) → n ≤ row-limit
-      go (yes l) = absurd (h .passed Refusals.count-stage (length text) (omega arith) (Refusals.many-tokens (h .read .its) l))
-      go (no l) = let r = few-rows (h .read .structure) in let c = h .count in omega arith
-
-  within : InLimits (flatten g)
-  within = in-limits (h .read) (λ p. h .passed Refusals.limit-stage p (omega arith))
+  few-tasks = within (λ l. limits (length text) (Refusals.many-tasks (h .read) l))
 
   pub names-told : (r : Found) → Names.Judged x n (t .bytes) r → Names.Told-of g r
-  names-told r j = j g (structure-shaped (h .read .structure)) (encoded-agrees (h .encoded) within (h .count) rows-fit) rows-fit few-tasks few-items
+  names-told r j =
+      let f = rows-within (h .read) (h .count) counts in
+      j g (structure-shaped (h .read .structure)) (encoded-agrees (h .encoded) (in-limits (h .read) limits) (h .count) f) f few-tasks (items-within (h .read) limits)
 
   pub types-told : (r : Found) → Types.Judged x n t r → ((p : ℕ) → ¬ NameBreach g p) → Types.Told-of g r
-  types-told r j none = j g (record { encoded = h .encoded; limits = within; count = h .count; few-rows = rows-fit; few-items = few-items; names = none })
+  types-told r j none = j g (given-of (h .read) (h .encoded) (h .count) counts limits none)
 
 -- ---- 5
 
@@ -133,12 +119,9 @@ module _ {text x y : List ℕ} {t u : Table} {r : Reading} (reads : Reads.Answer
 same-table : {u v : Table} → u .cells ≡ v .cells → u .bytes ≡ v .bytes → u ≡ v
 same-table {u} {v} a e = ap (λ (k : List ℕ). table k (u .bytes)) a ∙ ap (table (v .cells)) e
 
-same-refusal : {n m p q : ℕ} → Refusals.refused n p ≡ Refusals.refused m q → Answer.Refused n p ≡ Answer.Refused m q
-same-refusal {n} {m} {p} {q} e = let x : n ≡ m = cc in let y : p ≡ q = cc in cc
-
 same-reply : (text x : List ℕ) (t : Table) {z w : List ℕ} {u v : Table} (r s : Answer) → Reply text x t z u r → Reply text x t w v s → (r ≡ s) × (z ≡ w) × (u ≡ v)
 same-reply text x t {z} {w} {u} {v} (Answer.Loads n) (Answer.Loads m) a b =
-    let e = one-reading (a .read) (b .read) in
+    let e = one-read (a .read) (b .read) in
     let c = a .count ∙ ap (λ (g : List TopLevel). length (flatten g)) e ∙ sym (b .count) in
     let l : AsLong z w u v = record { cells = a .long .cells ∙ sym (b .long .cells); parts = a .long .parts ∙ sym (b .long .parts); bytes = a .long .bytes ∙ sym (b .long .bytes) } in
     let o = one-encoding l (subst (λ (g : List TopLevel). Encoded (flatten g) z u) e (a .encoded)) (b .encoded) in
@@ -146,7 +129,7 @@ same-reply text x t {z} {w} {u} {v} (Answer.Loads n) (Answer.Loads m) a b =
 same-reply text x t (Answer.Loads n) (Answer.Refused m p) a b = never-both (a .answers) (b .0)
 same-reply text x t (Answer.Refused m p) (Answer.Loads n) a b = never-both (b .answers) (a .0)
 same-reply text x t (Answer.Refused n p) (Answer.Refused m q) a b =
-    (same-refusal (one-answer (a .0) (b .0)), a .1 .rows ∙ sym (b .1 .rows), same-table (a .1 .parts ∙ sym (b .1 .parts)) (a .1 .bytes ∙ sym (b .1 .bytes)))
+    (same-refusal Answer.Refused (one-answer (a .0) (b .0)), a .1 .rows ∙ sym (b .1 .rows), same-table (a .1 .parts ∙ sym (b .1 .parts)) (a .1 .bytes ∙ sym (b .1 .bytes)))
 
 pub one-reply : {text x z w : List ℕ} {t u v : Table} {r s : Answer} → Answered text x t z u r → Answered text x t w v s → (r ≡ s) × (z ≡ w) × (u ≡ v)
 one-reply {text} {x} {t = t} {r = r} {s = s} a b = same-reply text x t r s (a .reply) (b .reply)

@@ -1,3 +1,2 @@
-// The names of a guideline that are read as text, as examine lists them: which are bare, how often, and near what.
-mod bare;
+// The names of a guideline that are read as text, as examine lists them: how often each stands there, and near what.
 pub mod names;

@@ -1,5 +1,6 @@
 // 8.3.3, SetEngineTime.
 use replying::Reply;
+use state::Header;
 ghost use Rattle.clock.specs.Time.{SetsTime};
 
 // Sets the engine time: refused with 7, or with 6 where it is beyond the limit.
@@ -8,7 +9,7 @@ pub fn set_time(s: &mut [u32], time: u64) -> Reply
 {
     if replying::ready(s) {
         if time <= limits::EngineTime::LIMIT {
-            blocks::put_cell(s, 2, time as u32);
+            blocks::put_cell(s, Header::TIME, time as u32);
             return Reply::Done;
         }
         return Reply::Refused(6);

@@ -1,5 +1,7 @@
 // 8.6.7, CycleConditions.
+use limits::Tasks;
 use state::Property;
+use state::Tag;
 ghost use mathlib.Core.Path.{_≡_};
 ghost use Rattle.cycling.specs.Cycling.{Cycling};
 
@@ -9,11 +11,11 @@ pub fn cycles(s: &[u32], t: usize) -> bool
 {
     let count = Property::CYCLE_COUNT as usize;
     let most = Property::NBR_CYCLES_VALUE as usize;
-    if state::cell(s, count, t) != 3 {
+    if state::cell(s, count, t) != Tag::COUNT {
         return false;
     }
-    if state::cell(s, most, t) != 3 {
+    if state::cell(s, most, t) != Tag::COUNT {
         return false;
     }
-    state::cell(s, count + 32, t) < state::cell(s, most + 32, t)
+    state::cell(s, count + Tasks::LIMIT, t) < state::cell(s, most + Tasks::LIMIT, t)
 }

@@ -1,11 +1,19 @@
 // Each terminal as a person writes it.
+use terminals::Terminal;
 ghost use mathlib.Core.Path.{_≡_};
 ghost use mathlib.Core.List.{[]};
 ghost use lib.ListN.{length, getD};
 ghost use Rattle.explain.specs.Spelling.{spellings as spellingsOf, spellings-table};
 
-// Twenty-four bytes for each of the 101 terminals: how long its spelling is, the spelling, and blanks.
-const SPELLINGS: [u8; 2424] = *b"\
+// The bytes of each terminal: how long its spelling is, the spelling, and blanks.
+const WIDTH: usize = 24;
+
+// Those of all terminals.
+pub const TABLE: usize = WIDTH * Terminal::COUNT as usize;
+
+const LAST: u8 = Terminal::COUNT - 1;
+
+const SPELLINGS: [u8; TABLE] = *b"\
 \x05abort                  \x06action                 \x07against                \x03and                    \
 \x03AND                    \x08argument               \x0dargument_name          \x0aattributes             \
 \x0aautonomous             \x09candidate              \x07caption                \x0bchoice_mode            \
@@ -40,30 +48,30 @@ fn wide(b: u8) -> usize
 }
 
 // The table, which is made once for all that is spelt.
-pub fn spellings() -> [u8; 2424]
+pub fn spellings() -> [u8; TABLE]
     ensures { λ r. ⌜ r ≡ spellings-table ⌝ }
 {
     SPELLINGS
 }
 
 // How long the spelling of the terminal k is.
-pub fn size(t: &[u8; 2424], k: u8) -> usize
+pub fn size(t: &[u8; TABLE], k: u8) -> usize
     requires { ⌜ now t ≡ spellings-table ⌝ }
     ensures { λ r. ⌜ r ≡ length (getD spellingsOf k []) ⌝ }
 {
-    if 100 < k {
+    if LAST < k {
         return 0;
     }
-    wide(t[wide(k) * 24])
+    wide(t[wide(k) * WIDTH])
 }
 
 // The byte j of the spelling of the terminal k.
-pub fn letter(t: &[u8; 2424], k: u8, j: usize) -> u8
+pub fn letter(t: &[u8; TABLE], k: u8, j: usize) -> u8
     requires { ⌜ now t ≡ spellings-table ⌝ }
     ensures { λ r. ⌜ r ≡ getD (getD spellingsOf k []) j 0 ⌝ }
 {
     if size(t, k) <= j {
         return 0;
     }
-    t[wide(k) * 24 + 1 + j]
+    t[wide(k) * WIDTH + 1 + j]
 }

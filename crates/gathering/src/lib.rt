@@ -1,17 +1,26 @@
 // 8.5.11: the values that the rows of the Changes table ask for, worked out against the old state and gathered in a scratch.
+use changes::Column;
+use changes::Row;
+use limits::Assignments;
+use limits::Changes;
+use limits::DataItems;
+use state::Plan;
 ghost use mathlib.Core.Path.{_≡_};
 ghost use Prim.Native.Nat.{_<_, _≤_};
 ghost use Rattle.gathering.specs.Rows.{TakesRow};
 ghost use Rattle.gathering.specs.Gathered.{Gathered};
 
+// The property of a value.
+const VALUE: usize = Column::VALUE as usize;
+
 // At most as many rows as the Changes table has.
 fn bounded(m: usize) -> usize
     ensures { λ r. ⌜ (r ≤ 1024) × (m ≤ 1024 → r ≡ m) ⌝ }
 {
-    if m <= 1024 {
+    if m <= Changes::ROWS {
         return m;
     }
-    1024
+    Changes::ROWS
 }
 
 // Takes in the value of the i-th row, if it is one of a value: its number is that of the assignment.
@@ -28,19 +37,19 @@ fn take(
     requires { ⌜ i < 1024 ⌝ }
     ensures { λ r. ⌜ TakesRow (now (x .entry)) (now (b .entry)) (now (f .entry)) (now (s .entry)) (now (o .entry)) i (now (news .entry)) (now (news .exit)) (now (texts .entry)) (now (texts .exit)) ⌝ }
 {
-    if parts::number(o, 4 * i + 1) != 776 {
+    if parts::number(o, Row::CELLS * i + Row::PROPERTY) != VALUE {
         return;
     }
-    let a = parts::number(o, 4 * i + 3);
-    if 256 <= a {
+    let a = parts::number(o, Row::CELLS * i + Row::NUMBER);
+    if Assignments::LIMIT <= a {
         return;
     }
-    let d = parts::number(f, 680 + a);
-    if 64 <= d {
+    let d = parts::number(f, Plan::ASSIGNED_ITEM + a);
+    if DataItems::LIMIT <= d {
         return;
     }
-    let task = parts::number(f, 1384 + a);
-    let end = parts::number(f, 936 + a);
+    let task = parts::number(f, Plan::ASSIGNING_TASK + a);
+    let end = parts::number(f, Plan::ASSIGNED_END + a);
     let v = truths::value_at(x, b, f, s, task, end);
     assigning::gather(b, v, d, news, texts);
 }

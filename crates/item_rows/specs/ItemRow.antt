@@ -21,10 +21,8 @@ use Kept.{Moving, adds}
 use Rattle.paper_calls.specs.Calls as Calls
 use Calls.{no-row, shows-value, shows-class, shows-type, shown-value, shown-class, shown-type, row}
 use Rattle.parts.specs.Texts.{textAt}
-use Rattle.values.specs.declared.text.Handle.{Handle}
-use Rattle.values.specs.declared.scalar.Scalar.the-variants.{Text}
 use Rattle.values.specs.declared.value.Value.{Value}
-use Rattle.values.specs.Meaning.{meaningV, handleOf}
+use Rattle.values.specs.Meaning.{meaningV}
 use Rattle.evaluator.specs.Columns.{ItemOf, shown}
 use Rattle.truths.specs.Part.{partOf, part-at}
 use Rattle.state.specs.Cell.{Cell}
@@ -34,17 +32,11 @@ use Rattle.holding.specs.Values.{item-shown}
 use Rattle.holding.specs.Shown.{kept, planned}
 use Rattle.row_shown.specs.declared.Row.{Row}
 use Rattle.row_shown.specs.declared.Shown.the-variants.{NoRow, OfValue, OfClass, OfType}
-use Rattle.row_shown.specs.Shown.{Plain, OfScalar, type-of, published-row, absent, present, Shows}
+use Rattle.row_shown.specs.Shown.{Plain, NameOf, type-of, published-row, absent, present, Shows}
 use Rattle.row_shown.specs.Cells.{ByCells, plain-published, scalar-published}
 use Rattle.task_rows.specs.Answers.{shows-none}
 use Rattle.task_rows.specs.Listed.{is-property, place-of}
 use Rattle.item_rows.specs.ItemLaws.{class-told, name-told, type-told}
-
-abbrev pub NameOf : ℕ → Row → Type 0
-NameOf h r = OfScalar (Text (handleOf h)) r
-
-pub name-is : (h : ℕ) (r : Row) {v : Handle} → v ≡ handleOf h → OfScalar (Text v) r → NameOf h r
-name-is h r e k = (k .0, k .1, k .2 ∙ ap Text e)
 
 -- ---- the value
 

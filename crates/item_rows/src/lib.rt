@@ -1,24 +1,23 @@
 // The rows of a data item, as the plan and the state tell them.
+use row_shown::Class;
+use row_shown::Rank;
 use row_shown::Row;
 use row_shown::Shown;
-use values::Scalar;
+use state::Plan;
+use state::Requested;
+use state::Values;
 ghost use Prim.Native.Nat.{_<_};
-ghost use Rattle.item_rows.specs.ItemRow.{NameOf, ValueRow, ItemRow};
-
-// The text with the handle `h`.
-fn name(h: u32) -> Row
-    ensures { λ r. ⌜ NameOf h r ⌝ }
-{
-    row_shown::scalar(Scalar::Text(values::handle_of(h as usize)))
-}
+ghost use Rattle.item_rows.specs.ItemRow.{ValueRow, ItemRow};
 
 // The value of the data item `d`, if it has one.
 fn value(s: &[u32], d: usize) -> Row
     requires { ⌜ d < 64 ⌝ }
     ensures { λ r. ⌜ ValueRow (now (s .entry)) d r ⌝ }
 {
-    if blocks::cell(s, 1864 + 17 * d) == 1 {
-        let v = evaluator::value(truths::part(s, 776, 1088), truths::part(s, 1864, 1088), d);
+    if blocks::cell(s, Values::NUMBERS + Values::CELLS * d) == 1 {
+        let tags = truths::part(s, Values::TAGS, Values::ALL);
+        let nums = truths::part(s, Values::NUMBERS, Values::ALL);
+        let v = evaluator::value(tags, nums, d);
         return Row {
             shown: Shown::OfValue,
             value: v,
@@ -33,11 +32,14 @@ pub fn item_row(f: &[u32], s: &[u32], d: usize, p: u64) -> Row
     ensures { λ r. ⌜ ItemRow (now (f .entry)) (now (s .entry)) d p r ⌝ }
 {
     match p {
-        0 => row_shown::plain(Shown::OfClass(1)),
-        1 => name(blocks::cell(f, 1256 + d)),
-        41 => row_shown::plain(Shown::OfType(blocks::cell(f, 1320 + d))),
-        42 => value(s, d),
-        50 => row_shown::by_cells(blocks::cell(s, 648 + d), blocks::cell(s, 712 + d)),
+        Rank::CLASS => row_shown::plain(Shown::OfClass(Class::DATA_ITEM)),
+        Rank::NAME => row_shown::name(parts::number(f, Plan::ITEM_NAME + d)),
+        Rank::TYPE => row_shown::plain(Shown::OfType(blocks::cell(f, Plan::ITEM_TYPE + d))),
+        Rank::VALUE => value(s, d),
+        Rank::REQUESTED => {
+            let tag = blocks::cell(s, Requested::TAGS + d);
+            row_shown::by_cells(tag, blocks::cell(s, Requested::NUMBERS + d))
+        }
         _ => row_shown::plain(Shown::NoRow),
     }
 }

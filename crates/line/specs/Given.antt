@@ -16,7 +16,8 @@ use Rattle.parts.specs.Part.{Table, Ends}
 use Rattle.parts.specs.Part as Part
 use Rattle.parts.specs.Items.{Items}
 use Rattle.resolution.specs.Letters.{Outcome}
-use Rattle.typer.specs.Typed.{Typed, typed-written}
+use Rattle.typer.specs.Typed.{Typed}
+use Rattle.typer.specs.TypedLaws.{typed-written}
 use Rattle.values.specs.declared.value.Value.{Value}
 use Rattle.values.specs.Meaning.{meaningV}
 use Rattle.apply.specs.Tasks.{Tasks}

@@ -7,10 +7,12 @@ use mathlib.Core.List.{List, map}
 use lib.ListN.{length, length-map, getD}
 use lib.Dec.{ltb}
 use borrow.Author.Tests.{ltb-false, lt-ltb, le-ltb}
+use Rattle.paper_expressions.specs.Laws.Tests.{or-r}
 use Rattle.paper_expressions.specs.Laws.Search.{no-clash}
 use Rattle.paper_guideline.specs.Structure.{TopLevel, Task, tasks}
 use Rattle.paper_guideline.specs.Refusals as Refusals
 use Rattle.paper_guideline.specs.Laws.RefusalLaws.{one-answer}
+use Rattle.paper_guideline.specs.Laws.StageTwin.{one-read}
 use Rattle.paper_rows.specs.Bare.{bare-guideline, bare-task}
 use Rattle.paper_rows.specs.Laws.LoadLaws.{lawful}
 use Rattle.paper_rows.specs.Laws.BareLaws.{bare-tasks, bare-lawful}
@@ -20,11 +22,12 @@ use Rattle.guideline_rows.specs.Encoded.{Encoded}
 use Rattle.guideline_rows.specs.LimitLaws.{in-limits}
 use Rattle.guideline_rows.specs.OneEncoding.{AsLong, one-encoding}
 use Rattle.stages.specs.Judged.{is-short}
+use Rattle.reading.specs.Laws.{same-refusal}
 use Rattle.stages.specs.Judged as Stages
 use Rattle.answering.specs.declared.Answer.{Answer}
 use Rattle.answering.specs.declared.Answer.the-variants as Answer
 use Rattle.answering.specs.Reply as Answering
-use Rattle.answering.specs.Stages.{one-reading, never-both, swapped}
+use Rattle.answering.specs.Stages.{never-both, swapped}
 use Rattle.opening.specs.Opened.{Opened, Opens, one-opened}
 use Rattle.row_tests.specs.Table.{row-limit}
 use Rattle.plan.specs.Filled.{Filled, Fills}
@@ -38,10 +41,6 @@ use Rattle.load.specs.declared.Reply.the-variants as Reply
 use Rattle.load.specs.Loads.{Lent, few, shortF, Emptied, Empty, Loaded, Outcome, Prepared, Told, Turned, Replied}
 
 -- ---- whether a table is short
-
-or-right : (a b : Bool) → b ≡ true → (a || b) ≡ true
-or-right true b e = refl
-or-right false b e = e
 
 or-none : (a b : Bool) → b ≡ false → (a || b) ≡ a
 or-none true b e = refl
@@ -62,7 +61,7 @@ pub few-first : (p b s : ℕ) → p < 1640 → true ≡ few p b s
 few-first p b s l = sym (rw (lt-ltb p 1640 l))
 
 pub few-second : (p b s : ℕ) → b < 65536 → true ≡ few p b s
-few-second p b s l = sym (or-right (ltb p 1640) (ltb b 65536 || ltb s 2952) (rw (lt-ltb b 65536 l)))
+few-second p b s l = sym (or-r (ltb p 1640) (ltb b 65536 || ltb s 2952) (rw (lt-ltb b 65536 l)))
 
 pub few-third : (p b s : ℕ) → 1640 ≤ p → 65536 ≤ b → ltb s 2952 ≡ few p b s
 few-third p b s l m = sym (rw (le-ltb p 1640 l, le-ltb b 65536 m))
@@ -141,7 +140,7 @@ pub too-short : (a : Lent) {text : List ℕ} {x q b f : List ℕ} {w : List (Lis
 too-short a Reply.Done e z y h = absurd (h .told true refl)
 too-short a (Reply.Refused n p) e z y h =
     record {
-      outcome = (h .told (shortF a) (or-right (is-short (length (a .rows)) (length (a .parts .cells)) (length (a .parts .bytes))) _ e), record { rows = z .rows; cells = z .parts; bytes = z .bytes; rest = y });
+      outcome = (h .told (shortF a) (or-r (is-short (length (a .rows)) (length (a .parts .cells)) (length (a .parts .bytes))) _ e), record { rows = z .rows; cells = z .parts; bytes = z .bytes; rest = y });
     }
 
 -- ---- only one reply fits
@@ -150,12 +149,9 @@ same-lent : {x y q r b c f g : List ℕ} {v w : List (List Bool)} {s u : List �
     → _≡_ {A = Lent} (record { rows = x; parts = table q b; plan = f; waits = v; state = s }) (record { rows = y; parts = table r c; plan = g; waits = w; state = u })
 same-lent a b c d e f = cc
 
-same-refusal : {n m p q : ℕ} → Refusals.refused n p ≡ Refusals.refused m q → Reply.Refused n p ≡ Reply.Refused m q
-same-refusal {n} {m} {p} {q} e = let x : n ≡ m = cc in let y : p ≡ q = cc in cc
-
 same-reply : (text : List ℕ) (a b c : Lent) (r s : Reply) → Outcome text a b r → Outcome text a c s → (r ≡ s) × (b ≡ c)
 same-reply text a b c Reply.Done Reply.Done h k =
-    let e = one-reading (h .read) (k .read) in
+    let e = one-read (h .read) (k .read) in
     let l : AsLong (b .rows) (c .rows) (b .parts) (c .parts) = record { cells = h .long .cells ∙ sym (k .long .cells); parts = h .long .parts ∙ sym (k .long .parts); bytes = h .long .bytes ∙ sym (k .long .bytes) } in
     let o = one-encoding l (subst (λ (g : List TopLevel). Encoded (flatten g) (b .rows) (b .parts)) e (h .encoded)) (k .encoded) in
     let f0 : Filled (c .rows) (length (flatten (k .guideline))) (c .parts .bytes) (b .plan) (b .waits) =
@@ -170,7 +166,7 @@ same-reply text a b c (Reply.Refused m p) Reply.Done h k = never-both (k .answer
 same-reply text a b c (Reply.Refused n p) (Reply.Refused m q) h k =
     let y = h .1 in
     let z = k .1 in (
-      same-refusal (one-answer (h .0) (k .0)),
+      same-refusal Reply.Refused (one-answer (h .0) (k .0)),
       same-lent (y .rows ∙ sym (z .rows)) (y .cells ∙ sym (z .cells)) (y .bytes ∙ sym (z .bytes)) (y .rest .plan ∙ sym (z .rest .plan)) (y .rest .waits ∙ sym (z .rest .waits)) (y .rest .state ∙ sym (z .rest .state)),
     )
 

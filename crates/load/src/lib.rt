@@ -15,7 +15,9 @@ pub struct Texts {}
 
 // The least lengths of the tables that reading doesn't test.
 impl Plan {
-    pub const LEAST: usize = 1640;
+    pub const LEAST: usize = state::Plan::CELLS;
+
+    const TASKS: usize = state::Plan::TASKS;
 }
 
 impl Texts {
@@ -61,7 +63,7 @@ fn prepare(
     ensures { λ _. ⌜ Prepared (now (rows .entry)) n (now (bytes .entry)) (now (plan .entry)) (now (state .entry)) (now (plan .exit)) (now (waits .exit)) (now (state .exit)) ⌝ }
 {
     plan_fill::fill(rows, n, bytes, plan, waits);
-    open(state, number(plan, 0));
+    open(state, number(plan, Plan::TASKS));
 }
 
 // The refusal of a text for which a table is too short: the text is read for its answer's sake alone.

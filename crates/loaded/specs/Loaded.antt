@@ -3,10 +3,11 @@ use Prim.Native.Nat.{ℕ, _+_, _*_, _<_, _≤_}
 use native.Mathlib.Omega.{arith}
 use mathlib.Core.Path.{_≡_, refl, sym, ap, subst, _∙_}
 use mathlib.Core.Bool.{Bool, true, false, _||_}
-use mathlib.Core.Logic.{inl, inr}
+use mathlib.Core.Logic.{inl, inr, ⊎-elim}
 use mathlib.Core.List.{List}
 use mathlib.Core.Option.{Option, none}
 use lib.ListN.{length, getD, List·getD-eq-default}
+use Rattle.paper_expressions.specs.Laws.Tests.{two, or-r}
 use Rattle.paper_expressions.specs.Values.{Value}
 use Rattle.paper_guideline.specs.Structure.{TopLevel, tasks}
 use Rattle.paper_guideline.specs.Refusals as Refusals
@@ -55,9 +56,7 @@ pub record Leaves (text : List ℕ) (a a′ : Lent) (r : Reply) (before : State)
 -- ---- accepted
 
 or-false : (a b : Bool) → ¬ ((a || b) ≡ true) → b ≡ false
-or-false a false h = refl
-or-false true true h = absurd (h refl)
-or-false false true h = absurd (h refl)
+or-false a b h = ⊎-elim (λ (e : b ≡ true). absurd (h (or-r a b e))) (λ (e : b ≡ false). e) (two b)
 
 module _ (text : List ℕ) (a a′ : Lent) (h : Loaded text a a′) where
   abbrev g : List TopLevel

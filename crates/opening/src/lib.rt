@@ -1,5 +1,9 @@
 // The state table that an accepted load leaves: every task is dormant, no data item has a value, the engine time is 0.
+use limits::Tasks;
+use state::Header;
 use state::Property;
+use state::Table;
+use state::Tag;
 ghost use Prim.Native.Nat.{_≤_};
 ghost use lib.ListN.{length};
 ghost use Rattle.opening.specs.Opened.{Marks, Opens};
@@ -7,20 +11,20 @@ ghost use Rattle.opening.specs.Opened.{Marks, Opens};
 pub struct State {}
 
 impl State {
-    // The least length of the table.
-    pub const LEAST: usize = 2952;
+    // the least length of the table
+    pub const LEAST: usize = Table::CELLS;
 
-    // The tag of a row that is a state, and the number of `dormant`.
-    pub const TAG: u32 = 5;
+    // the tag of a row that is a state, and the number of `dormant`
+    const TAG: u32 = Tag::STATE as u32;
 
-    pub const DORMANT: u32 = 1;
+    const DORMANT: u32 = state::State::DORMANT as u32;
 }
 
 // The row of the state of the task `t`.
 fn dormant(s: &mut [u32], t: usize)
     ensures { λ _. ⌜ Marks (now (s .entry)) t (now (s .exit)) ⌝ }
 {
-    if 32 <= t {
+    if Tasks::LIMIT <= t {
         return;
     }
     if s.len() < State::LEAST {
@@ -28,7 +32,7 @@ fn dormant(s: &mut [u32], t: usize)
     }
     let p = Property::STATE as usize + t;
     s[p] = State::TAG;
-    s[p + 32] = State::DORMANT;
+    s[p + Tasks::LIMIT] = State::DORMANT;
 }
 
 // Opens the table for a guideline of `n` tasks.
@@ -39,7 +43,7 @@ pub fn open(s: &mut [u32], n: usize)
     if s.len() < State::LEAST {
         return;
     }
-    s[0] = 1;
+    s[Header::LOADED] = 1;
     let mut t = 0usize;
     while t < n {
         dormant(s, t);

@@ -1,12 +1,11 @@
 // The task, or the data item, that a name means: its number, or how many there are.
+use guideline_rows::Kind;
 use name_tests::lists::matches;
 use parts::number;
 use row_tests::cells::handle;
 use row_tests::cells::kind;
 ghost use mathlib.Core.Path.{_≡_};
 ghost use Rattle.plan_cells.specs.Finds.{found-at, Finds, Child, Row};
-
-const COMPONENT: usize = 13;
 
 // Whether the name of the k-th row of the list matches.
 fn is_found(rows: &[u32], bytes: &[u8], list: &[u32], folded: bool, h: usize, k: usize) -> bool
@@ -33,7 +32,7 @@ pub fn find(rows: &[u32], bytes: &[u8], list: &[u32], m: usize, folded: bool, h:
 pub fn child(rows: &[u32], bytes: &[u8], tasks: &[u32], m: usize, k: usize, last: usize) -> usize
     ensures { λ r. ⌜ Child (now (rows .entry)) (now (bytes .entry)) (now (tasks .entry)) m k last r ⌝ }
 {
-    if kind(rows, k) == COMPONENT {
+    if kind(rows, k) == Kind::COMPONENT {
         return find(rows, bytes, tasks, m, false, handle(rows, k));
     }
     last

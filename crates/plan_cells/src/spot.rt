@@ -1,5 +1,6 @@
 // What the rows passed so far count.
-use super::cells::ROWS;
+use guideline_rows::Kind;
+use row_tests::cells::ROWS;
 use row_tests::kinds::is_task;
 ghost use mathlib.Core.Path.{_≡_};
 ghost use mathlib.Core.Bool.{cond};
@@ -7,12 +8,6 @@ ghost use Prim.Native.Nat.{_+_, _<_};
 ghost use Rattle.row_names.specs.Flat.{is-data};
 ghost use Rattle.plan.specs.Writes.{one-if, is-source, is-assignment};
 ghost use Rattle.plan_cells.specs.Spots.{Steps};
-
-const DATA: usize = 18;
-
-const SOURCE: usize = 60;
-
-const ASSIGNMENT: usize = 81;
 
 pub struct Spot {
     pub tasks: usize,
@@ -29,19 +24,19 @@ pub struct Spot {
 fn is_item(k: usize) -> bool
     ensures { λ r. ⌜ r ≡ is-data k ⌝ }
 {
-    k == DATA
+    k == Kind::DATA
 }
 
 fn is_source(k: usize) -> bool
     ensures { λ r. ⌜ r ≡ is-source k ⌝ }
 {
-    k == SOURCE
+    k == Kind::SOURCE
 }
 
 fn is_assignment(k: usize) -> bool
     ensures { λ r. ⌜ r ≡ is-assignment k ⌝ }
 {
-    k == ASSIGNMENT
+    k == Kind::EQUALS
 }
 
 // One more, if the row counts.

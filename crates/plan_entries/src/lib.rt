@@ -1,9 +1,10 @@
 // What a row writes to the plan, by its kind. Nothing is asked of the tables: on any contents it ends and does nothing undefined.
+use guideline_rows::Kind;
+use guideline_rows::Row;
 use limits::Assignments;
 use limits::DataItems;
 use limits::Sources;
 use limits::Tasks;
-use plan_cells::cells::Column;
 use plan_cells::cells::cell;
 use plan_cells::cells::less;
 use plan_cells::cells::more;
@@ -14,6 +15,9 @@ use plan_cells::found::row;
 use plan_cells::spot::Spot;
 use row_tests::cells::handle;
 use row_tests::cells::kind;
+use state::Answer;
+use state::Class;
+use state::Plan;
 ghost use mathlib.Core.Path.{_≡_};
 ghost use mathlib.Core.Bool.{cond};
 ghost use lib.Dec.{eqb};
@@ -21,12 +25,12 @@ ghost use Rattle.row_tests.specs.Table.{cellOf};
 ghost use Rattle.plan.specs.Writes.{a-task, a-data-item, a-trigger, a-terminal, a-source, a-mandatory, an-assignment, answer};
 ghost use Rattle.plan_entries.specs.Turns.{Turn, EndTurn, ComponentTurn, ItemTurn, RowTurn};
 
-// The cells of a row that the plan takes over.
-const NAME: usize = 2;
+// The classes, as they stand in a cell.
+const PLAN: u32 = Class::PLAN as u32;
 
-const END: usize = 6;
+const ACTION: u32 = Class::ACTION as u32;
 
-const FLAG: usize = 7;
+const ENQUIRY: u32 = Class::ENQUIRY as u32;
 
 // The handle of a task's name; the root has none.
 fn name_of(rows: &[u32], k: usize, t: usize) -> u32
@@ -35,44 +39,44 @@ fn name_of(rows: &[u32], k: usize, t: usize) -> u32
     if t == 0 {
         return 0;
     }
-    cell(rows, k, NAME)
+    cell(rows, k, Row::NAME)
 }
 
 fn task(rows: &[u32], k: usize, at: Spot, class: u32, f: &mut [u32])
     ensures { λ _. ⌜ Turn (now (rows .entry)) k at (a-task class) (now (f .entry)) (now (f .exit)) ⌝ }
 {
     let t = at.tasks;
-    put(f, Column::TASK_COUNT, 1, 0, short(more(t)));
-    put(f, Column::CLASS, Tasks::LIMIT, t, class);
-    put(f, Column::FIRST_SOURCE, Tasks::LIMIT, t, short(at.sources));
+    put(f, Plan::TASKS, 1, 0, short(more(t)));
+    put(f, Plan::CLASS, Tasks::LIMIT, t, class);
+    put(f, Plan::FIRST_SOURCE, Tasks::LIMIT, t, short(at.sources));
     put(
         f,
-        Column::FIRST_ASSIGNMENT,
+        Plan::FIRST_ASSIGNMENT,
         Tasks::LIMIT,
         t,
         short(at.assignments),
     );
-    put(f, Column::NAME, Tasks::LIMIT, t, name_of(rows, k, t));
+    put(f, Plan::TASK_NAME, Tasks::LIMIT, t, name_of(rows, k, t));
 }
 
 fn item(rows: &[u32], k: usize, at: Spot, f: &mut [u32])
     ensures { λ _. ⌜ Turn (now (rows .entry)) k at a-data-item (now (f .entry)) (now (f .exit)) ⌝ }
 {
     let d = at.items;
-    put(f, Column::ITEM_COUNT, 1, 0, short(more(d)));
+    put(f, Plan::ITEMS, 1, 0, short(more(d)));
     put(
         f,
-        Column::ITEM_NAME,
+        Plan::ITEM_NAME,
         DataItems::LIMIT,
         d,
-        cell(rows, k, NAME),
+        cell(rows, k, Row::NAME),
     );
     put(
         f,
-        Column::ITEM_TYPE,
+        Plan::ITEM_TYPE,
         DataItems::LIMIT,
         d,
-        cell(rows, k, FLAG),
+        cell(rows, k, Row::FLAG),
     );
 }
 
@@ -85,7 +89,7 @@ fn ends(rows: &[u32], k: usize, at: Spot, column: usize, f: &mut [u32])
         column,
         Tasks::LIMIT,
         less(at.tasks, 1),
-        cell(rows, k, END),
+        cell(rows, k, Row::END),
     );
 }
 
@@ -93,8 +97,8 @@ fn trigger(rows: &[u32], k: usize, at: Spot, f: &mut [u32])
     ensures { λ _. ⌜ Turn (now (rows .entry)) k at a-trigger (now (f .entry)) (now (f .exit)) ⌝ }
 {
     let t = less(at.tasks, 1);
-    put(f, Column::TRIGGERED, Tasks::LIMIT, t, 1);
-    put(f, Column::TRIGGER, Tasks::LIMIT, t, cell(rows, k, NAME));
+    put(f, Plan::TRIGGERED, Tasks::LIMIT, t, 1);
+    put(f, Plan::TRIGGER, Tasks::LIMIT, t, cell(rows, k, Row::NAME));
 }
 
 fn terminal(rows: &[u32], k: usize, at: Spot, f: &mut [u32])
@@ -102,10 +106,10 @@ fn terminal(rows: &[u32], k: usize, at: Spot, f: &mut [u32])
 {
     put(
         f,
-        Column::TERMINAL,
+        Plan::TERMINAL,
         Tasks::LIMIT,
         at.child,
-        cell(rows, k, FLAG),
+        cell(rows, k, Row::FLAG),
     );
 }
 
@@ -114,21 +118,21 @@ fn mandatory(rows: &[u32], k: usize, at: Spot, f: &mut [u32])
 {
     put(
         f,
-        Column::MANDATORY,
+        Plan::MANDATORY,
         Sources::LIMIT,
         less(at.sources, 1),
-        cell(rows, k, FLAG),
+        cell(rows, k, Row::FLAG),
     );
 }
 
-// Whether a task of the class is confirmed: 1 an action, 2 no action.
+// Whether a task of the kind is confirmed: an action is.
 fn confirms(class: usize) -> u32
     ensures { λ r. ⌜ r ≡ answer (eqb class 1) ⌝ }
 {
-    if class == 1 {
-        return 1;
+    if class == Kind::ACTION {
+        return Answer::YES;
     }
-    2
+    Answer::NO
 }
 
 // The component names the task `c`.
@@ -145,8 +149,8 @@ fn component(
     ensures { λ _. ⌜ ComponentTurn (now (rows .entry)) n (now (tasks .entry)) m k at c (now (f .entry)) (now (f .exit)) ⌝ }
 {
     let class = kind(rows, row(tasks, m, n, c));
-    put(f, Column::PARENT, Tasks::LIMIT, c, short(at.tasks));
-    put(f, Column::CONFIRMS, Tasks::LIMIT, c, confirms(class));
+    put(f, Plan::PARENT, Tasks::LIMIT, c, short(at.tasks));
+    put(f, Plan::CONFIRMATORY, Tasks::LIMIT, c, confirms(class));
 }
 
 fn source(rows: &[u32], bytes: &[u8], items: &[u32], d: usize, k: usize, at: Spot, f: &mut [u32])
@@ -154,14 +158,8 @@ fn source(rows: &[u32], bytes: &[u8], items: &[u32], d: usize, k: usize, at: Spo
 {
     let i = find(rows, bytes, items, d, false, handle(rows, k));
     let z = less(more(at.sources), at.sourced);
-    put(f, Column::SOURCE_ITEM, Sources::LIMIT, at.sources, short(i));
-    put(
-        f,
-        Column::SOURCE_COUNT,
-        Tasks::LIMIT,
-        less(at.tasks, 1),
-        short(z),
-    );
+    put(f, Plan::SOURCE_ITEM, Sources::LIMIT, at.sources, short(i));
+    put(f, Plan::SOURCES, Tasks::LIMIT, less(at.tasks, 1), short(z));
 }
 
 fn assignment(
@@ -178,18 +176,18 @@ fn assignment(
     let i = find(rows, bytes, items, d, true, handle(rows, k));
     let a = at.assignments;
     let t = less(at.tasks, 1);
-    put(f, Column::TARGET, Assignments::LIMIT, a, short(i));
+    put(f, Plan::ASSIGNED_ITEM, Assignments::LIMIT, a, short(i));
     put(
         f,
-        Column::ASSIGNED_END,
+        Plan::ASSIGNED_END,
         Assignments::LIMIT,
         a,
-        cell(rows, k, END),
+        cell(rows, k, Row::END),
     );
-    put(f, Column::ASSIGNED_BY, Assignments::LIMIT, a, short(t));
+    put(f, Plan::ASSIGNING_TASK, Assignments::LIMIT, a, short(t));
     put(
         f,
-        Column::ASSIGNMENT_COUNT,
+        Plan::ASSIGNMENTS,
         Tasks::LIMIT,
         t,
         short(less(more(a), at.assigned)),
@@ -213,19 +211,19 @@ pub fn write(
     ensures { λ _. ⌜ RowTurn (now (rows .entry)) n (now (bytes .entry)) (now (tasks .entry)) m (now (items .entry)) d k at c (now (f .entry)) (now (f .exit)) ⌝ }
 {
     match kind(rows, k) {
-        49 => task(rows, k, at, 1, f),
-        1 => task(rows, k, at, 2, f),
-        26 => task(rows, k, at, 3, f),
-        18 => item(rows, k, at, f),
-        51 => ends(rows, k, at, Column::PRECONDITION, f),
-        70 => ends(rows, k, at, Column::WAIT_CONDITION, f),
-        65 => ends(rows, k, at, Column::TERMINATE, f),
-        66 => trigger(rows, k, at, f),
-        13 => component(rows, n, tasks, m, k, at, c, f),
-        64 => terminal(rows, k, at, f),
-        60 => source(rows, bytes, items, d, k, at, f),
-        35 => mandatory(rows, k, at, f),
-        81 => assignment(rows, bytes, items, d, k, at, f),
+        Kind::PLAN => task(rows, k, at, PLAN, f),
+        Kind::ACTION => task(rows, k, at, ACTION, f),
+        Kind::ENQUIRY => task(rows, k, at, ENQUIRY, f),
+        Kind::DATA => item(rows, k, at, f),
+        Kind::PRECONDITION => ends(rows, k, at, Plan::PRECONDITION, f),
+        Kind::WAIT_CONDITION => ends(rows, k, at, Plan::WAIT_CONDITION, f),
+        Kind::TERMINATE => ends(rows, k, at, Plan::TERMINATE, f),
+        Kind::TRIGGER => trigger(rows, k, at, f),
+        Kind::COMPONENT => component(rows, n, tasks, m, k, at, c, f),
+        Kind::TERMINAL => terminal(rows, k, at, f),
+        Kind::SOURCE => source(rows, bytes, items, d, k, at, f),
+        Kind::MANDATORY => mandatory(rows, k, at, f),
+        Kind::EQUALS => assignment(rows, bytes, items, d, k, at, f),
         _ => {}
     }
 }

@@ -10,7 +10,7 @@ use limits::DataItems;
 use limits::Tasks;
 use name_tests::lists::gather;
 use order::order;
-use plan_cells::cells::ROWS;
+use row_tests::cells::ROWS;
 use waiting::waiting;
 ghost use Rattle.plan.specs.Filled.{Fills};
 
@@ -22,12 +22,12 @@ pub fn fill(rows: &[u32], n: usize, bytes: &[u8], f: &mut [u32], w: &mut [[bool;
     if ROWS < n {
         return;
     }
-    let mut tasks = [0u32; 32];
+    let mut tasks = [0u32; Tasks::LIMIT];
     let m = gather(rows, n, true, &mut tasks);
     if Tasks::LIMIT < m {
         return;
     }
-    let mut items = [0u32; 64];
+    let mut items = [0u32; DataItems::LIMIT];
     let d = gather(rows, n, false, &mut items);
     if DataItems::LIMIT < d {
         return;

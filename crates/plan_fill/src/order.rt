@@ -2,8 +2,8 @@
 use limits::Tasks;
 use parts::byte;
 use parts::number;
-use plan_cells::cells::Column;
 use plan_cells::cells::put;
+use state::Plan;
 ghost use mathlib.Core.Path.{_≡_};
 ghost use mathlib.Core.Bool.{cond};
 ghost use Prim.Native.Nat.{_≤_, _<_};
@@ -19,7 +19,7 @@ fn is_ready(f: &[u32], marks: &[u8], t: usize) -> bool
     if byte(marks, t) == 1 {
         return false;
     }
-    let p = number(f, Column::PARENT + t);
+    let p = number(f, Plan::PARENT + t);
     if p == 0 {
         return true;
     }
@@ -70,7 +70,7 @@ pub fn order(f: &mut [u32], m: usize)
     while k < Tasks::LIMIT {
         let t = next(f, m, &marks);
         mark(&mut marks, t);
-        put(f, Column::ORDER, Tasks::LIMIT, k, placed(t, m));
+        put(f, Plan::ORDER, Tasks::LIMIT, k, placed(t, m));
         k += 1;
     }
 }

@@ -1,12 +1,11 @@
 // Who waits for whom: the row of a task marks the tasks that its schedule constraints name.
+use guideline_rows::Kind;
 use limits::Tasks;
 use plan_cells::found::child;
 use plan_cells::found::find;
 use row_tests::cells::handle;
 use row_tests::cells::kind;
 ghost use Rattle.plan_fill.specs.Waiting.{Sets, Waits, AllWaits};
-
-const CONSTRAINT: usize = 57;
 
 // The task `t` waits for the task `a`.
 fn set(w: [[bool; 32]; 32], t: usize, a: usize) -> [[bool; 32]; 32]
@@ -37,7 +36,7 @@ fn wait(
 ) -> [[bool; 32]; 32]
     ensures { λ r. ⌜ Waits (now (rows .entry)) (now (bytes .entry)) (now (tasks .entry)) m k c w r ⌝ }
 {
-    if kind(rows, k) != CONSTRAINT {
+    if kind(rows, k) != Kind::SCHEDULE_CONSTRAINT {
         return w;
     }
     set(w, c, find(rows, bytes, tasks, m, false, handle(rows, k)))
@@ -47,7 +46,7 @@ fn wait(
 pub fn waiting(rows: &[u32], n: usize, bytes: &[u8], tasks: &[u32], m: usize) -> [[bool; 32]; 32]
     ensures { λ r. ⌜ AllWaits (now (rows .entry)) n (now (bytes .entry)) (now (tasks .entry)) m r ⌝ }
 {
-    let mut w = [[false; 32]; 32];
+    let mut w = [[false; Tasks::LIMIT]; Tasks::LIMIT];
     let mut c = 0;
     let mut k = 0;
     while k < n {

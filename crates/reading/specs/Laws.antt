@@ -1,6 +1,6 @@
 -- From the stages to the reply; and that only one reply fits.
 use Prim.Native.Nat.{ℕ}
-use mathlib.Core.Path.{_≡_, refl, sym, ap, subst, _∙_}
+use mathlib.Core.Path.{_≡_, refl, sym, ap, ap₂, subst, _∙_}
 use mathlib.Core.List.{List}
 use lib.ListN.{length, take, replicate}
 use Rattle.paper_guideline.specs.Limits.{token-limit}
@@ -104,8 +104,9 @@ module _ {x z w : List ℕ} {t u v : Table} where
 not-both : {A : Type 0} {text x z : List ℕ} {t u : Table} {n m p : ℕ} → Accepted text x t z u n → Turned (Short x t) text m p → A
 not-both {p = p} a b = absurd (a .passed (b .refused .stage) p (b .stage) (b .refused .broken))
 
-same-refusal : {n m p q : ℕ} → Refusals.refused n p ≡ Refusals.refused m q → Reading.Refused n p ≡ Reading.Refused m q
-same-refusal {n} {m} {p} {q} e = let x : n ≡ m = cc in let y : p ≡ q = cc in cc
+-- one refusal is one reply, by whichever type it is told
+pub same-refusal : {A : Type 0} (reply : ℕ → ℕ → A) {n m p q : ℕ} → Refusals.refused n p ≡ Refusals.refused m q → reply n p ≡ reply m q
+same-refusal reply {n} {m} {p} {q} e = let x : n ≡ m = cc in let y : p ≡ q = cc in ap₂ reply x y
 
 same-reply : (text x : List ℕ) (t : Table) {z w : List ℕ} {u v : Table} (r s : Reading) → Reply text x t z u r → Reply text x t w v s → (r ≡ s) × (z ≡ w) × (u ≡ v)
 same-reply text x t {z} {w} {u} {v} (Reading.Reads n) (Reading.Reads m) a b =
@@ -117,7 +118,7 @@ same-reply text x t (Reading.Reads n) (Reading.Refused m p) a b = not-both a (b 
 same-reply text x t (Reading.Refused m p) (Reading.Reads n) a b = not-both b (a .0)
 same-reply text x t (Reading.Refused n p) (Reading.Refused m q) a b =
     let f = empties (a .1) (b .1) in
-    (same-refusal (one-answer (Refusals.is-refused (a .0 .refused)) (Refusals.is-refused (b .0 .refused))), f .0, f .1)
+    (same-refusal Reading.Refused (one-answer (Refusals.is-refused (a .0 .refused)) (Refusals.is-refused (b .0 .refused))), f .0, f .1)
 
 pub one-reply : {text x z w : List ℕ} {t u v : Table} {r s : Reading} → Answered text x t z u r → Answered text x t w v s → (r ≡ s) × (z ≡ w) × (u ≡ v)
 one-reply {text} {x} {t = t} {r = r} {s = s} a b = same-reply text x t r s (a .reply) (b .reply)

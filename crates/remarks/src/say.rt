@@ -6,14 +6,15 @@ use explain::quote;
 use explain::spelling;
 use leaves::cell;
 use limits::TokenList;
+use name_sentences::of_name;
 use parts::byte;
-use sentences::rows;
 use sentences::write;
 use spot::seen::Seen;
 use terminals::Terminal;
 use token_tests::limit_at;
 use token_tests::sizes::Limit;
 use tokens::Read;
+use type_sentences::of_expression;
 
 // Refusal 1.
 fn of_bytes(seen: Seen) {
@@ -38,7 +39,7 @@ fn of_start(b: u8) {
 }
 
 // A terminal as it is written.
-fn spelt(t: &[u8; 2424], k: u8)
+fn spelt(t: &[u8; spelling::TABLE], k: u8)
     requires { ⌜ now t ≡ spellings-table ⌝ }
 {
     write::text(b"  ");
@@ -158,8 +159,8 @@ fn of_token_at(
 ) {
     match number {
         3 => of_grammar(kinds, i, n),
-        4 => rows::of_name(text, place),
-        5 => rows::of_expression(text, kinds, places, i, place),
+        4 => of_name(text, place),
+        5 => of_expression(text, kinds, places, i, place),
         6 => of_limit(text, byte(kinds, i), place, cell(lengths, i), i, n),
         10 => of_edition(text, byte(kinds, i), place, cell(lengths, i)),
         _ => {}

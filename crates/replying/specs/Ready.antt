@@ -7,6 +7,7 @@ use mathlib.Core.List.{List}
 use lib.Dec.{eqb}
 use lib.ListN.{getD}
 use borrow.Author.Tests.{eq-eqb, eqb-true}
+use Rattle.paper_expressions.specs.Laws.Tests.{and-l, and-r}
 use Rattle.paper_expressions.specs.Laws.Search.{no-clash}
 use Rattle.paper_calls.specs.Calls as Calls
 use Calls.{Guideline, State, empty, loaded, Call, Unready, nothing-loaded, flag-set, Calls, refuses, done}
@@ -33,12 +34,8 @@ pub unready : {x b f : List ℕ} {w : List (List Bool)} {s : List ℕ} {st : Sta
 unready e (holds-none h) = nothing-loaded
 unready {s} e (holds-loaded {g} h) = flag-set (set-or-not (g .flag) (ap (λ (z : ℕ). eqb z 0) (sym (h .flagged)) ∙ sym (ap (λ (z : Bool). z && eqb (getD s 1 0) 0) (eq-eqb (getD s 0 0) 1 (h .loaded))) ∙ e))
 
-both-true : (a b : Bool) → (a && b) ≡ true → (a ≡ true) × (b ≡ true)
-both-true true b e = (refl, e)
-both-true false b e = absurd (no-clash (cc))
-
 pub is-ready : {g : List TopLevel} {x b f : List ℕ} {w : List (List Bool)} {s : List ℕ} {t : Table} {flag : Bool} {time : ℕ} → readyF s ≡ true → Holds g x b f w s t flag time → flag ≡ false
-is-ready {s} {flag} e h = go flag (sym (h .flagged) ∙ eqb-true (getD s 1 0) 0 (both-true (eqb (getD s 0 0) 1) (eqb (getD s 1 0) 0) e .1))
+is-ready {s} {flag} e h = go flag (sym (h .flagged) ∙ eqb-true (getD s 1 0) 0 (and-r (eqb (getD s 0 0) 1) (eqb (getD s 1 0) 0) e))
   where
     go : (c : Bool) → bit c ≡ 0 → c ≡ false
     go true e = absurd (let z : ⊥ = omega arith in z)
@@ -51,7 +48,7 @@ pub not-empty : (s : List ℕ) {A : Type 0} → loadedF s ≡ true → getD s 0 
 not-empty s e h = absurd (let a = eqb-true (getD s 0 0) 1 e in let z : ⊥ = omega arith in z)
 
 pub ready-loaded : (s : List ℕ) → readyF s ≡ true → loadedF s ≡ true
-ready-loaded s e = both-true (eqb (getD s 0 0) 1) (eqb (getD s 1 0) 0) e .0
+ready-loaded s e = and-l (eqb (getD s 0 0) 1) (eqb (getD s 1 0) 0) e
 
 -- what the code finds out
 pub ready-told : (s : List ℕ) {a : ℕ} {r : Bool} → r ≡ loadedF s → r ≡ true → a ≡ getD s 1 0 → eqb a 0 ≡ readyF s

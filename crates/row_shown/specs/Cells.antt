@@ -15,10 +15,11 @@ use Rattle.paper_calls.specs.Calls as Calls
 use Calls.{no-row, there, shows-value, shows-state, shows-time, shown-value, shown-state, shown-time, row}
 use Rattle.state.specs.Cell.{Cell, tag, row-of, row-back, state-of, Plain, absent, plain-unknown, plain-truth, plain-count, plain-time, plain-state}
 use Rattle.planned.specs.Planned.{answered}
+use Rattle.values.specs.declared.text.Handle.{Handle}
 use Rattle.values.specs.declared.scalar.Scalar.{Scalar}
-use Rattle.values.specs.declared.scalar.Scalar.the-variants.{Unknown, Truth, Int}
+use Rattle.values.specs.declared.scalar.Scalar.the-variants.{Unknown, Truth, Int, Text}
 use Rattle.values.specs.declared.value.Value.{Value}
-use Rattle.values.specs.Meaning.{meaning, meaningL, valued, meaningV}
+use Rattle.values.specs.Meaning.{meaning, meaningL, valued, meaningV, handleOf}
 use Rattle.row_shown.specs.declared.Shown as Code
 use Rattle.row_shown.specs.declared.Shown.the-variants.{NoRow, OfValue, OfState, OfTime}
 use Rattle.row_shown.specs.declared.Row.{Row}
@@ -33,6 +34,9 @@ plain-published b r e = ap (λ (y : Code.Shown). reply-of b y (r .value)) e
 pub scalar-published : (b : List ℕ) (r : Row) {s : Scalar} → OfScalar s r → published-row b r ≡ row (shows-value (one (meaning b s)))
 scalar-published b r e =
     plain-published b r {s = OfValue} (e .0) ∙ ap (λ (y : paper.Value). row (shows-value y)) (ap₂ (λ (m : Bool) (z : Scalar). valued m (meaning b z) (meaningL b (r .value .list))) (e .1) (e .2))
+
+pub name-is : (h : ℕ) (r : Row) {v : Handle} → v ≡ handleOf h → OfScalar (Text v) r → Defined.NameOf h r
+name-is h r e k = (k .0, k .1, k .2 ∙ ap Text e)
 
 -- ---- counts
 

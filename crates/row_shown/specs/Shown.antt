@@ -11,8 +11,9 @@ use Rattle.paper_calls.specs.Calls as Calls
 use Calls.{no-row, there, shows-value, shows-state, shows-class, shows-type, shows-time, shows-component, ShownAs, row, refuses}
 use Rattle.state.specs.Cell.{state-of}
 use Rattle.values.specs.declared.scalar.Scalar.{Scalar}
+use Rattle.values.specs.declared.scalar.Scalar.the-variants.{Text}
 use Rattle.values.specs.declared.value.Value.{Value}
-use Rattle.values.specs.Meaning.{meaning, meaningV}
+use Rattle.values.specs.Meaning.{meaning, meaningV, handleOf}
 use Rattle.paper_expressions.specs.Values.{one}
 use Rattle.row_shown.specs.declared.Shown.{Shown}
 use Rattle.row_shown.specs.declared.Shown.the-variants.{NoRow, There, OfValue, OfState, OfClass, OfType, OfTime, OfComponent, Refused}
@@ -67,3 +68,7 @@ Plain s r = r .shown ≡ s
 
 abbrev pub OfScalar : Scalar → Row → Type 0
 OfScalar s r = (r .shown ≡ OfValue) × (r .value .many ≡ false) × (r .value .one ≡ s)
+
+-- the text with the handle h
+abbrev pub NameOf : ℕ → Row → Type 0
+NameOf h r = OfScalar (Text (handleOf h)) r

@@ -1,8 +1,16 @@
 // What reading a row answers, and the rows that two cells tell: those that move, and those that are yes or no.
+mod ranks;
+
 use numbers::Num;
+pub use ranks::Class;
+pub use ranks::Kind;
+pub use ranks::Rank;
+use state::Answer;
+use state::Tag;
+use state::Truth;
 use values::Scalar;
 use values::Value;
-ghost use Rattle.row_shown.specs.Shown.{Plain, OfScalar};
+ghost use Rattle.row_shown.specs.Shown.{Plain, OfScalar, NameOf};
 ghost use Rattle.row_shown.specs.Cells.{CountOf, ByCells, ByAnswer};
 
 // By the numbers of document 01; a component by its kind and its number.
@@ -23,6 +31,16 @@ pub struct Row {
     pub shown: Shown,
     pub value: Value,
 }
+
+const UNKNOWN: u32 = Tag::UNKNOWN as u32;
+
+const TRUTH: u32 = Tag::TRUTH as u32;
+
+const COUNT: u32 = Tag::COUNT as u32;
+
+const TIME: u32 = Tag::TIME as u32;
+
+const STATE: u32 = Tag::STATE as u32;
 
 // An answer that is no value.
 pub fn plain(shown: Shown) -> Row
@@ -46,6 +64,13 @@ pub fn scalar(s: Scalar) -> Row
     }
 }
 
+// The text with the handle `h`.
+pub fn name(h: usize) -> Row
+    ensures { λ r. ⌜ NameOf h r ⌝ }
+{
+    scalar(Scalar::Text(values::handle_of(h)))
+}
+
 // A count: no task cycles, so it is 0 or 1.
 fn count(x: u32) -> Row
     ensures { λ r. ⌜ CountOf x r ⌝ }
@@ -61,22 +86,22 @@ pub fn by_cells(k: u32, x: u32) -> Row
     ensures { λ r. ⌜ ByCells k x r ⌝ }
 {
     match k {
-        1 => scalar(Scalar::Unknown),
-        2 => scalar(Scalar::Truth(x == 1)),
-        3 => count(x),
-        4 => plain(Shown::OfTime(x)),
-        5 => plain(Shown::OfState(x)),
+        UNKNOWN => scalar(Scalar::Unknown),
+        TRUTH => scalar(Scalar::Truth(x == Truth::TRUE)),
+        COUNT => count(x),
+        TIME => plain(Shown::OfTime(x)),
+        STATE => plain(Shown::OfState(x)),
         _ => plain(Shown::NoRow),
     }
 }
 
-// The row that a cell of the plan stands for: 1 is true, 2 is false.
+// The row that a cell of the plan stands for.
 pub fn by_answer(x: u32) -> Row
     ensures { λ r. ⌜ ByAnswer x r ⌝ }
 {
     match x {
-        1 => scalar(Scalar::Truth(true)),
-        2 => scalar(Scalar::Truth(false)),
+        Answer::YES => scalar(Scalar::Truth(true)),
+        Answer::NO => scalar(Scalar::Truth(false)),
         _ => plain(Shown::NoRow),
     }
 }

@@ -1,4 +1,5 @@
 // 8.3.2, RunEngine, with document 01's bound: review all; quiet, bounded, or enact and count; an exception stops.
+use state::Header;
 ghost use mathlib.Core.Path.{_≡_};
 ghost use lib.ListN.{length, replicate};
 ghost use Rattle.holding.specs.Elsewhere.{Elsewhere};
@@ -49,7 +50,7 @@ fn repeat(
             return ended(Ending::QUIET, k);
         }
         k += 1;
-        if blocks::cell(s, 1) != 0 {
+        if blocks::cell(s, Header::FLAG) != 0 {
             return ended(Ending::EXCEPTION, k);
         }
     }

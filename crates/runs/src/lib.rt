@@ -1,4 +1,5 @@
 // 8.3.2, RunEngine, as a call: document 01's tests in their order, and then the run.
+use changes::Row;
 use running::Ending;
 use running::Report;
 ghost use mathlib.Core.Path.{_≡_};
@@ -39,7 +40,7 @@ pub fn run(
 {
     if replying::ready(s) {
         if bound <= limits::Run::CYCLES as u64 {
-            if limits::Changes::ROWS <= changes.len() / 4 {
+            if limits::Changes::ROWS <= changes.len() / Row::CELLS {
                 return answer(running::run(x, b, f, w, s, changes, bound as u32));
             }
         }

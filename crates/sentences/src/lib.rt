@@ -1,10 +1,3 @@
-// What people are told of a refusal by 4 or 5, in sentences on standard output: which name, where the other definition stands; which
-// type, what was wanted, and the smallest part that has none.
-mod items;
-mod leaf;
-mod named;
-mod operators;
-pub mod rows;
+// How people are told: writing to standard output, the names of rows and their places, and what a name may have been meant for.
 pub mod slips;
-mod typed;
 pub mod write;

@@ -15,27 +15,17 @@ use Rattle.paper_rows.specs.Laws.Ranks.{property-rank}
 use Rattle.paper_engine.specs.Laws.Kept.{Moving, adds}
 use Rattle.paper_calls.specs.Calls.{shows-value, shows-class, shows-component, shown-value, shown-class, shown-component, row}
 use Rattle.parts.specs.Texts.{textAt}
-use Rattle.values.specs.declared.text.Handle.{Handle}
-use Rattle.values.specs.declared.scalar.Scalar.{Scalar}
-use Rattle.values.specs.declared.scalar.Scalar.the-variants.{Text}
-use Rattle.values.specs.Meaning.{meaning, handleOf}
 use Rattle.waits.specs.Twins.{itemAt}
 use Rattle.planned.specs.Planned.{sourcesIn, answered}
 use Rattle.holding.specs.Holding.{Holds}
 use Rattle.holding.specs.Shown.{kept, planned}
 use Rattle.row_shown.specs.declared.Row.{Row}
 use Rattle.row_shown.specs.declared.Shown.the-variants.{NoRow, OfClass, OfComponent}
-use Rattle.row_shown.specs.Shown.{Plain, OfScalar, present, Shows}
+use Rattle.row_shown.specs.Shown.{Plain, NameOf, present, Shows}
 use Rattle.row_shown.specs.Cells.{ByAnswer, plain-published, scalar-published}
 use Rattle.task_rows.specs.Answers.{shows-none}
 use Rattle.task_rows.specs.Listed.{is-property, place-of}
 use Rattle.source_rows.specs.SourceLaws.{class-told, item-told, name-told}
-
-abbrev pub NameOf : ℕ → Row → Type 0
-NameOf h r = OfScalar (Text (handleOf h)) r
-
-pub name-is : (h : ℕ) (r : Row) {v : Handle} → v ≡ handleOf h → OfScalar (Text v) r → NameOf h r
-name-is h r e k = (k .0, k .1, k .2 ∙ ap Text e)
 
 -- r answers the row of the property q of the source n
 abbrev pub OfSource : List ℕ → ℕ → Property → Row → Type 0

@@ -46,50 +46,34 @@ one-place (of-end e) (of-end f) = refl
 here-or-before : (n k : ℕ) → n ≤ suc k → (n ≤ k) ⊎ (n ≡ suc k)
 here-or-before n k h = ⊎-elim (λ (e : leb n k ≡ true). inl (leb-true n k e)) (λ (e : leb n k ≡ false). let l = leb-false n k e in inr (omega arith)) (two (leb n k))
 
-module _ {Short : Type 0} {text : List ℕ} where
-  -- ---- a short table matters at the limits alone
+-- a short table matters at the limits alone
+pub over : {A B : Type 0} {text : List ℕ} {s : Stage} {q : ℕ} → (s ≡ limit-stage → A → B) → Breach A text s q → Breach B text s q
+over f (high-byte a b) = high-byte a b
+over f (long a) = long a
+over f (no-rule a) = no-rule a
+over f (many-tokens a b) = many-tokens a b
+over f (many-open a b) = many-open a b
+over f (bad-token a b c d) = bad-token a b c d
+over f (bad-end a b c) = bad-end a b c
+over f (uses-left-out a b) = uses-left-out a b
+over f (token-breach a b c) = token-breach a b c
+over f (too-deep a b c) = too-deep a b c
+over f (long-list a b c) = long-list a b c
+over f (many-tasks a b) = many-tasks a b
+over f (many-data-items a b) = many-data-items a b
+over f (many-parts a b) = many-parts a b
+over f (many-assignments a b) = many-assignments a b
+over f (many-sources a b) = many-sources a b
+over f (short-table a) = short-table (f refl a)
+over f (name-breach a b) = name-breach a b
+over f (no-type a b c) = no-type a b c
 
+module _ {Short : Type 0} {text : List ℕ} where
   pub up : {s : Stage} {q : ℕ} → Breach ⊥ text s q → Breach Short text s q
-  up (high-byte a b) = high-byte a b
-  up (long a) = long a
-  up (no-rule a) = no-rule a
-  up (many-tokens a b) = many-tokens a b
-  up (many-open a b) = many-open a b
-  up (bad-token a b c d) = bad-token a b c d
-  up (bad-end a b c) = bad-end a b c
-  up (uses-left-out a b) = uses-left-out a b
-  up (token-breach a b c) = token-breach a b c
-  up (too-deep a b c) = too-deep a b c
-  up (long-list a b c) = long-list a b c
-  up (many-tasks a b) = many-tasks a b
-  up (many-data-items a b) = many-data-items a b
-  up (many-parts a b) = many-parts a b
-  up (many-assignments a b) = many-assignments a b
-  up (many-sources a b) = many-sources a b
-  up (short-table a) = absurd a
-  up (name-breach a b) = name-breach a b
-  up (no-type a b c) = no-type a b c
+  up = over (λ e z. absurd z)
 
   pub down : {s : Stage} {q : ℕ} → turn s < turn limit-stage → Breach Short text s q → Breach ⊥ text s q
-  down l (high-byte a b) = high-byte a b
-  down l (long a) = long a
-  down l (no-rule a) = no-rule a
-  down l (many-tokens a b) = many-tokens a b
-  down l (many-open a b) = many-open a b
-  down l (bad-token a b c d) = bad-token a b c d
-  down l (bad-end a b c) = bad-end a b c
-  down l (uses-left-out a b) = uses-left-out a b
-  down l (token-breach a b c) = token-breach a b c
-  down l (too-deep a b c) = too-deep a b c
-  down l (long-list a b c) = long-list a b c
-  down l (many-tasks a b) = many-tasks a b
-  down l (many-data-items a b) = many-data-items a b
-  down l (many-parts a b) = many-parts a b
-  down l (many-assignments a b) = many-assignments a b
-  down l (many-sources a b) = many-sources a b
-  down l (short-table a) = absurd (omega arith)
-  down l (name-breach a b) = name-breach a b
-  down l (no-type a b c) = no-type a b c
+  down l = over (λ e z. (let k : turn limit-stage < turn limit-stage = subst (λ (r : Stage). turn r < turn limit-stage) e l in absurd (omega arith)))
 
 -- the same tokens have the same first bad one
 same-bad : {text : List ℕ} {ts us : List Token} {ks js : List ℕ} {i : ℕ} → Tokens text 0 ts → Terminals ts ks → Tokens text 0 us → Terminals us js → First-bad ⟨process⟩ js i → First-bad ⟨process⟩ ks i

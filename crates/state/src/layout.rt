@@ -1,5 +1,17 @@
 // Where the columns of the state table and of the plan begin, and what their cells hold, by name: docs/TABLES.md.
+use limits::DataItems;
 use limits::Tasks;
+
+pub struct Header {}
+
+// The first cells of the state table: whether a guideline is loaded, the Exception flag, the engine time.
+impl Header {
+    pub const LOADED: usize = 0;
+
+    pub const FLAG: usize = 1;
+
+    pub const TIME: usize = 2;
+}
 
 pub struct Property {}
 
@@ -62,6 +74,16 @@ impl Values {
 
     // the cells of one item: its shape, and one for each element
     pub const CELLS: usize = 17;
+
+    // those of all items
+    pub const ALL: usize = Values::CELLS * DataItems::LIMIT;
+}
+
+pub struct Table {}
+
+impl Table {
+    // the least length of the state table
+    pub const CELLS: usize = Values::NUMBERS + Values::ALL;
 }
 
 pub struct Tag {}
@@ -77,6 +99,13 @@ impl Tag {
     pub const TIME: usize = 4;
 
     pub const STATE: usize = 5;
+}
+
+pub struct Truth {}
+
+// The number of a row that is true or false.
+impl Truth {
+    pub const TRUE: u32 = 1;
 }
 
 pub struct State {}
@@ -99,6 +128,15 @@ impl Class {
     pub const ACTION: usize = 2;
 
     pub const ENQUIRY: usize = 3;
+}
+
+pub struct Answer {}
+
+// What a cell of the plan tells of a row that is true or false.
+impl Answer {
+    pub const YES: u32 = 1;
+
+    pub const NO: u32 = 2;
 }
 
 pub struct Plan {}

@@ -1,6 +1,11 @@
 // The rows of a task, as the plan and the state tell them.
+use limits::Tasks;
+use row_shown::Class;
+use row_shown::Kind;
+use row_shown::Rank;
 use row_shown::Row;
 use row_shown::Shown;
+use state::Plan;
 use state::Property;
 use values::Scalar;
 ghost use Prim.Native.Nat.{_<_};
@@ -10,14 +15,12 @@ ghost use Rattle.waits.specs.Twins.{marked};
 ghost use Rattle.task_rows.specs.Answers.{Moving, ThereIf, ClassRow, TextIf, ParentRow};
 ghost use Rattle.task_rows.specs.TaskRow.{TaskRow};
 
-// Where the columns of the properties begin that only reading asks for.
-const IN_PROGRESS_TIME: u16 = 392;
+// The classes of the plan.
+const PLAN: u32 = state::Class::PLAN as u32;
 
-const DISCARDED_TIME: u16 = 456;
+const ACTION: u32 = state::Class::ACTION as u32;
 
-const COMPLETED_TIME: u16 = 520;
-
-const ACTUAL_PROCEDURE: u16 = 584;
+const ENQUIRY: u32 = state::Class::ENQUIRY as u32;
 
 // A row that moves, of the property whose column begins at `p`.
 fn moving(s: &[u32], p: u16, t: usize) -> Row
@@ -25,7 +28,10 @@ fn moving(s: &[u32], p: u16, t: usize) -> Row
     ensures { λ r. ⌜ Moving (now (s .entry)) p t r ⌝ }
 {
     let q = p as usize;
-    row_shown::by_cells(blocks::cell(s, q + t), blocks::cell(s, q + 32 + t))
+    row_shown::by_cells(
+        blocks::cell(s, q + t),
+        blocks::cell(s, q + Tasks::LIMIT + t),
+    )
 }
 
 // A row that is shown as being there.
@@ -43,9 +49,9 @@ fn class(k: u32) -> Row
     ensures { λ r. ⌜ ClassRow k r ⌝ }
 {
     match k {
-        1 => row_shown::plain(Shown::OfClass(3)),
-        2 => row_shown::plain(Shown::OfClass(6)),
-        3 => row_shown::plain(Shown::OfClass(5)),
+        PLAN => row_shown::plain(Shown::OfClass(Class::PLAN)),
+        ACTION => row_shown::plain(Shown::OfClass(Class::ACTION)),
+        ENQUIRY => row_shown::plain(Shown::OfClass(Class::ENQUIRY)),
         _ => row_shown::plain(Shown::NoRow),
     }
 }
@@ -67,7 +73,7 @@ fn parent(p: u32) -> Row
     if p == 0 {
         return row_shown::plain(Shown::NoRow);
     }
-    row_shown::plain(Shown::OfComponent(0, p - 1))
+    row_shown::plain(Shown::OfComponent(Kind::TASK, p - 1))
 }
 
 // Whether one is marked.
@@ -76,7 +82,7 @@ fn any(row: [bool; 32]) -> bool
 {
     let mut k: usize = 0;
     let mut found = false;
-    while k < 32 {
+    while k < Tasks::LIMIT {
         found = waits::either(found, row[k]);
         k += 1;
     }
@@ -89,28 +95,31 @@ pub fn task_row(f: &[u32], w: [[bool; 32]; 32], s: &[u32], t: usize, p: u64) -> 
     ensures { λ r. ⌜ TaskRow (now (f .entry)) w (now (s .entry)) t p r ⌝ }
 {
     match p {
-        0 => class(blocks::cell(f, 168 + t)),
-        1 => text(t != 0, blocks::cell(f, 1192 + t)),
-        6 => moving(s, Property::STATE, t),
-        7 => there(any(w[t])),
-        9 => there(blocks::cell(f, 520 + t) != 0),
-        10 => there(blocks::cell(f, 552 + t) != 0),
-        11 => text(blocks::cell(f, 40 + t) == 1, blocks::cell(f, 1224 + t)),
-        12 => moving(s, Property::TRIGGER_ACTIVE, t),
-        13 => there(blocks::cell(f, 648 + t) != 0),
-        15 => parent(blocks::cell(f, 8 + t)),
-        16 => row_shown::by_answer(blocks::cell(f, 136 + t)),
-        17 => moving(s, Property::CONFIRMED, t),
-        18 => moving(s, Property::CYCLE_COUNT, t),
-        19 => moving(s, Property::NBR_CYCLES_VALUE, t),
-        24 => moving(s, Property::START_AT, t),
-        26 => row_shown::by_answer(blocks::cell(f, 72 + t)),
-        29 => moving(s, IN_PROGRESS_TIME, t),
-        30 => moving(s, DISCARDED_TIME, t),
-        31 => moving(s, COMPLETED_TIME, t),
-        32 => there(blocks::cell(f, 584 + t) != 0),
-        35 => there(blocks::cell(f, 232 + t) != 0),
-        40 => moving(s, ACTUAL_PROCEDURE, t),
+        Rank::CLASS => class(blocks::cell(f, Plan::CLASS + t)),
+        Rank::NAME => text(t != 0, blocks::cell(f, Plan::TASK_NAME + t)),
+        Rank::STATE => moving(s, Property::STATE, t),
+        Rank::ANTECEDENT_TASKS => there(any(w[t])),
+        Rank::PRECONDITION => there(blocks::cell(f, Plan::PRECONDITION + t) != 0),
+        Rank::WAIT_CONDITION => there(blocks::cell(f, Plan::WAIT_CONDITION + t) != 0),
+        Rank::TRIGGER => text(
+            blocks::cell(f, Plan::TRIGGERED + t) == 1,
+            blocks::cell(f, Plan::TRIGGER + t),
+        ),
+        Rank::TRIGGER_ACTIVE => moving(s, Property::TRIGGER_ACTIVE, t),
+        Rank::POSTCONDITION => there(blocks::cell(f, Plan::ASSIGNMENTS + t) != 0),
+        Rank::PARENT_PLAN => parent(blocks::cell(f, Plan::PARENT + t)),
+        Rank::CONFIRMATORY => row_shown::by_answer(blocks::cell(f, Plan::CONFIRMATORY + t)),
+        Rank::CONFIRMED => moving(s, Property::CONFIRMED, t),
+        Rank::CYCLE_COUNT => moving(s, Property::CYCLE_COUNT, t),
+        Rank::NBR_CYCLES_VALUE => moving(s, Property::NBR_CYCLES_VALUE, t),
+        Rank::START_AT => moving(s, Property::START_AT, t),
+        Rank::TERMINAL => row_shown::by_answer(blocks::cell(f, Plan::TERMINAL + t)),
+        Rank::IN_PROGRESS_TIME => moving(s, Property::IN_PROGRESS_TIME, t),
+        Rank::DISCARDED_TIME => moving(s, Property::DISCARDED_TIME, t),
+        Rank::COMPLETED_TIME => moving(s, Property::COMPLETED_TIME, t),
+        Rank::TERMINATE_CONDITION => there(blocks::cell(f, Plan::TERMINATE + t) != 0),
+        Rank::SOURCES => there(blocks::cell(f, Plan::SOURCES + t) != 0),
+        Rank::ACTUAL_PROCEDURE => moving(s, Property::ACTUAL_PROCEDURE, t),
         _ => row_shown::plain(Shown::NoRow),
     }
 }

@@ -11,7 +11,8 @@ use lib.ListN.{getD, length}
 use lib.Seq.{ext-getD}
 use borrow.Author.Count.{below-more}
 use borrow.Author.Tests.{eq-eqb, ne-eqb, lt-ltb, le-ltb, eqb-true}
-use Rattle.paper_expressions.specs.Laws.Search.{no-clash, sameb, same-reflects, Reflects, of-yes, of-no}
+use Rattle.paper_expressions.specs.Laws.Tests.{contra}
+use Rattle.paper_expressions.specs.Laws.Search.{sameb, same-reflects, Reflects, of-yes, of-no}
 use Rattle.parts.specs.Texts.{cells, textAt}
 use Rattle.blocks.specs.Blocks.{cells-long, cells-at}
 use Rattle.state.specs.Layout.{rowIs}
@@ -29,18 +30,22 @@ refuted : {P : Type 0} {b : Bool} → Reflects P b → ¬ P → false ≡ b
 refuted (of-yes p) n = absurd (n p)
 refuted (of-no m) n = refl
 
+pub same-test : {x y u v : ℕ} → x ≡ u → y ≡ v → eqb x y ≡ eqb u v
+same-test e f = ap₂ eqb e f
+
 -- the first k bytes are the same
 abbrev pub Agree : List ℕ → ℕ → List ℕ → ℕ → Type 0
 Agree b p u k = (j : ℕ) → j < k → getD b (p + j) 0 ≡ getD u j 0
 
-pub agree-more : (b : List ℕ) (p : ℕ) (u : List ℕ) (k : ℕ) {x y : ℕ} → x ≡ getD b (p + k) 0 → y ≡ getD u k 0 → x ≡ y → Agree b p u k → Agree b p u (k + 1)
-agree-more b p u k e f g h = below-more (λ (j : ℕ). getD b (p + j) 0 ≡ getD u j 0) k h (sym e ∙ g ∙ f)
+pub agree-more : (b : List ℕ) (p : ℕ) (u : List ℕ) (k : ℕ) {r : Bool} → r ≡ eqb (getD b (p + k) 0) (getD u k 0) → r ≡ true → Agree b p u k → Agree b p u (k + 1)
+agree-more b p u k e g h = below-more (λ (j : ℕ). getD b (p + j) 0 ≡ getD u j 0) k h (eqb-true (getD b (p + k) 0) (getD u k 0) (sym e ∙ g))
 
 pub other-size : (b : List ℕ) (h : ℕ) (u : List ℕ) → ¬ (h % 64 ≡ length u) → false ≡ sameb (textAt b h) u
 other-size b h u n = refuted (same-reflects (textAt b h) u) (λ e. n (sym (cells-long b (h / 64) (h % 64)) ∙ ap length e))
 
-pub other-byte : (b : List ℕ) (h : ℕ) (u : List ℕ) (k : ℕ) {x y : ℕ} → k < h % 64 → x ≡ getD b (h / 64 + k) 0 → y ≡ getD u k 0 → ¬ (x ≡ y) → false ≡ sameb (textAt b h) u
-other-byte b h u k l e f n = refuted (same-reflects (textAt b h) u) (λ z. n (e ∙ sym (cells-at b (h / 64) (h % 64) k l) ∙ ap (λ (y : List ℕ). getD y k 0) z ∙ sym f))
+pub other-byte : (b : List ℕ) (h : ℕ) (u : List ℕ) (k : ℕ) {r : Bool} → k < h % 64 → r ≡ eqb (getD b (h / 64 + k) 0) (getD u k 0) → r ≡ false → false ≡ sameb (textAt b h) u
+other-byte b h u k l e n =
+    refuted (same-reflects (textAt b h) u) (λ z. contra (sym n ∙ e ∙ eq-eqb (getD b (h / 64 + k) 0) (getD u k 0) (sym (cells-at b (h / 64) (h % 64) k l) ∙ ap (λ (y : List ℕ). getD y k 0) z)))
 
 pub agreed : (b : List ℕ) (h : ℕ) (u : List ℕ) (k : ℕ) → h % 64 ≡ length u → h % 64 ≤ k → Agree b (h / 64) u k → true ≡ sameb (textAt b h) u
 agreed b h u k e l a =

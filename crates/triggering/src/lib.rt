@@ -1,25 +1,39 @@
 // 8.3.7, SendTrigger.
+use limits::Tasks;
+use parts::HANDLE;
 use replying::Reply;
+use state::Plan;
 use state::Property;
+use state::State;
+use state::Tag;
 ghost use mathlib.Core.Path.{_≡_};
-ghost use Prim.Native.Nat.{_<_};
+ghost use Prim.Native.Nat.{_+_, _<_};
+ghost use lib.Dec.{eqb};
+ghost use lib.ListN.{getD};
 ghost use Rattle.paper_expressions.specs.Laws.Search.{sameb};
 ghost use Rattle.parts.specs.Texts.{textAt};
 ghost use Rattle.triggering.specs.Hit.{hitF, stepF};
 ghost use Rattle.triggering.specs.Trigger.{Triggers};
 
+// Whether the byte `k` of the text that begins at `p` is that of the name.
+fn same_byte(b: &[u8], p: usize, name: &[u8], k: usize) -> bool
+    ensures { λ r. ⌜ r ≡ eqb (getD (now (b .entry)) (p + k) 0) (getD (now (name .entry)) k 0) ⌝ }
+{
+    parts::names::at(b, p, k) == parts::byte(name, k)
+}
+
 // Whether the text with the handle `h` is this one, byte for byte.
 fn same_text(b: &[u8], h: usize, name: &[u8]) -> bool
     ensures { λ r. ⌜ r ≡ sameb (textAt (now (b .entry)) h) (now (name .entry)) ⌝ }
 {
-    let p = h / 64;
-    let n = h % 64;
+    let p = h / HANDLE;
+    let n = h % HANDLE;
     if n != name.len() {
         return false;
     }
     let mut k: usize = 0;
     while k < n {
-        if parts::names::at(b, p, k) != parts::byte(name, k) {
+        if !same_byte(b, p, name, k) {
             return false;
         }
         k += 1;
@@ -32,18 +46,18 @@ fn hit(f: &[u32], b: &[u8], s: &[u32], name: &[u8], t: usize) -> bool
     requires { ⌜ t < 32 ⌝ }
     ensures { λ r. ⌜ r ≡ hitF (now (f .entry)) (now (b .entry)) (now (s .entry)) (now (name .entry)) t ⌝ }
 {
-    if parts::number(f, 40 + t) != 1 {
+    if parts::number(f, Plan::TRIGGERED + t) != 1 {
         return false;
     }
-    let p = parts::number(f, 8 + t);
+    let p = parts::number(f, Plan::PARENT + t);
     if p == 0 {
         return false;
     }
-    if 32 < p {
+    if Tasks::LIMIT < p {
         return false;
     }
-    if state::row_is(s, Property::STATE, p - 1, 5, 2) {
-        return same_text(b, parts::number(f, 1224 + t), name);
+    if state::row_is(s, Property::STATE, p - 1, Tag::STATE, State::IN_PROGRESS) {
+        return same_text(b, parts::number(f, Plan::TRIGGER + t), name);
     }
     false
 }
@@ -65,7 +79,7 @@ pub fn trigger(f: &[u32], b: &[u8], s: &mut [u32], name: &[u8]) -> Reply
     if replying::ready(s) {
         if given::small_text(name, 0, name.len()) {
             let mut t: usize = 0;
-            while t < 32 {
+            while t < Tasks::LIMIT {
                 step(f, b, s, name, t);
                 t += 1;
             }

@@ -1,5 +1,4 @@
 // The expressions of tasks, by the evaluator: conditions, and assigned values.
-use limits::DataItems;
 use limits::Expression;
 use limits::Tasks;
 use state::Plan;
@@ -15,9 +14,7 @@ ghost use Rattle.evaluator.specs.Published.{Published};
 ghost use Rattle.paper_guideline.specs.Limits.{depth-limit};
 ghost use Rattle.truths.specs.Truth.{TruthOf, HeldOf, AllHeld, AllAllowed, AllEnded};
 
-// The cells of the values of all data items, and where the states of the tasks stand: the numbers of their property.
-const VALUES: usize = Values::CELLS * DataItems::LIMIT;
-
+// Where the states of the tasks stand: the numbers of their property.
 const STATES: usize = Property::STATE as usize + Tasks::LIMIT;
 
 // The `n` cells from `a` on: what there is of them.
@@ -40,8 +37,8 @@ pub fn value_at(x: &[u32], b: &[u8], f: &[u32], s: &[u32], task: usize, end: usi
     ensures { λ r. ⌜ Published (table (now (x .entry)) (now (b .entry))) (shownBy (now (f .entry)) (now (s .entry))) task end depth-limit r ⌝ }
 {
     let names = part(f, Plan::ITEM_NAME, parts::number(f, Plan::ITEMS));
-    let tags = part(s, Values::TAGS, VALUES);
-    let nums = part(s, Values::NUMBERS, VALUES);
+    let tags = part(s, Values::TAGS, Values::ALL);
+    let nums = part(s, Values::NUMBERS, Values::ALL);
     let tasks = part(f, Plan::TASK_NAME, parts::number(f, Plan::TASKS));
     let states = part(s, STATES, Tasks::LIMIT);
     evaluator::value_of(

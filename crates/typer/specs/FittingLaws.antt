@@ -28,7 +28,7 @@ use Rattle.resolution.specs.Letters.{letter, letter-reflects, Outcome, is, none
 use Rattle.resolution.specs.Resolution.{Near, same, by, near-reflects, meetsOf}
 use Rattle.typer.specs.Leaves.{inferredOf, inferred-letter}
 use Rattle.typer.specs.Typed as Tables
-use Tables.{typed-written}
+use Rattle.typer.specs.TypedLaws.{typed-written}
 use Rattle.typer.specs.Fitting.{asks-condition, asks-wording, asks-assigned, Suits, Given, Fits}
 
 -- two answers that meet the contract are the same

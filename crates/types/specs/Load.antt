@@ -5,31 +5,33 @@ use mathlib.Core.List.{List}
 use native.Mathlib.Omega.{arith}
 use lib.ListN.{length}
 use Rattle.paper_expressions.specs.View.{At}
-use Rattle.paper_guideline.specs.Structure.{TopLevel}
-use Rattle.paper_guideline.specs.Limits.{token-limit}
+use Rattle.paper_guideline.specs.Structure.{TopLevel, data-items}
+use Rattle.paper_guideline.specs.Limits.{token-limit, data-item-limit}
+use Rattle.paper_guideline.specs.Names.{NameBreach}
 use Rattle.paper_guideline.specs.Parts.{expressions}
-use Rattle.paper_guideline.specs.Refusals.{count-stage, limit-stage, name-stage, type-stage, declared-items, Fitting, Read, Breach, many-tokens, many-data-items, name-breach, no-type}
+use Rattle.paper_guideline.specs.Refusals.{count-stage, limit-stage, type-stage, declared-items, Fitting, Read, Breach, many-tokens, many-data-items, no-type}
 use Rattle.paper_guideline.specs.Laws.StageTwin.{one-read}
 use Rattle.parts.specs.Part.{Table}
 use Rattle.guideline_rows.specs.Rows.{flatten}
 use Rattle.guideline_rows.specs.Encoded.{Encoded}
 use Rattle.guideline_rows.specs.FlatLaws.{few-rows}
 use Rattle.guideline_rows.specs.LimitLaws.{in-limits}
+use Rattle.row_tests.specs.Table.{row-limit}
 use Rattle.types.specs.Judged.{Misfit, Given}
 
-within : {n m : ℕ} → ¬ (m < n) → n ≤ m
+pub within : {n m : ℕ} → ¬ (m < n) → n ≤ m
 within h = omega arith
 
-pub given-of : {Short : Type 0} {text x : List ℕ} {n : ℕ} {t : Table} {g : List TopLevel} → Read text g → Encoded (flatten g) x t → n ≡ length (flatten g)
-    → ((p : ℕ) → ¬ Breach Short text count-stage p) → ((p : ℕ) → ¬ Breach Short text limit-stage p) → ((p : ℕ) → ¬ Breach Short text name-stage p) → Given x n t g
-given-of {text = text} {g = g} read e c counts limits names = record {
-  encoded = e;
-  limits = in-limits read limits;
-  count = c;
-  few-rows = let f = few-rows (read .structure) in let w : length (read .tokens) ≤ token-limit = within (λ l. counts (length text) (many-tokens (read .its) l)) in omega arith;
-  few-items = within (λ l. limits (length text) (many-data-items read l));
-  names = λ p b. names p (name-breach read b);
-}
+module _ {Short : Type 0} {text : List ℕ} {g : List TopLevel} (read : Read text g) where
+  pub rows-within : {n : ℕ} → n ≡ length (flatten g) → ((p : ℕ) → ¬ Breach Short text count-stage p) → n ≤ row-limit
+  rows-within c counts = let f = few-rows (read .structure) in let w : length (read .tokens) ≤ token-limit = within (λ l. counts (length text) (many-tokens (read .its) l)) in omega arith
+
+  pub items-within : ((p : ℕ) → ¬ Breach Short text limit-stage p) → length (data-items g) ≤ data-item-limit
+  items-within limits = within (λ l. limits (length text) (many-data-items read l))
+
+  pub given-of : {x : List ℕ} {n : ℕ} {t : Table} → Encoded (flatten g) x t → n ≡ length (flatten g)
+      → ((p : ℕ) → ¬ Breach Short text count-stage p) → ((p : ℕ) → ¬ Breach Short text limit-stage p) → ((p : ℕ) → ¬ NameBreach g p) → Given x n t g
+  given-of e c counts limits names = record { encoded = e; limits = in-limits read limits; count = c; few-rows = rows-within c counts; few-items = items-within limits; names = names }
 
 pub misfit-breach : {Short : Type 0} {text : List ℕ} {g : List TopLevel} {p : ℕ} → Read text g → Misfit g p → Breach Short text type-stage p
 misfit-breach {Short} {text} read m = subst (Breach Short text type-stage) (sym (m .there)) (no-type read (m .at) (m .misfit))

@@ -1,18 +1,17 @@
 // The names and declared types of the data items, in two columns.
+use guideline_rows::Kind;
+use guideline_rows::Row;
 use parts::word;
 use row_tests::cells::kind;
-use terminals::Terminal;
 ghost use Prim.Native.Nat.{_≤_, _<_};
 ghost use Rattle.types.specs.Columns.{Puts, Gathers};
-
-const DATA: usize = Terminal::DATA as usize;
 
 // The row `i` behind the `m` that were found, if it is a data item: how many there are then.
 fn put(rows: &[u32], names: &mut [u32], types: &mut [u8], m: usize, i: usize) -> usize
     requires { ⌜ (m ≤ i) × (i < 65536) ⌝ }
     ensures { λ r. ⌜ Puts (now (rows .entry)) (now (names .entry)) (now (types .entry)) m i (now (names .exit)) (now (types .exit)) r ⌝ }
 {
-    if kind(rows, i) != DATA {
+    if kind(rows, i) != Kind::DATA {
         return m;
     }
     if names.len() <= m {
@@ -21,8 +20,8 @@ fn put(rows: &[u32], names: &mut [u32], types: &mut [u8], m: usize, i: usize) ->
     if types.len() <= m {
         return m + 1;
     }
-    names[m] = word(rows, i * 8 + 2);
-    types[m] = (word(rows, i * 8 + 7) % 256) as u8;
+    names[m] = word(rows, i * Row::CELLS + Row::NAME);
+    types[m] = (word(rows, i * Row::CELLS + Row::FLAG) % 256) as u8;
     m + 1
 }
 

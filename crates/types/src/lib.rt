@@ -1,18 +1,17 @@
 // Refusal 5: the smallest place at which an expression has no fitting type.
 // Nothing is asked of the tables: on any contents it ends and does nothing undefined.
-mod columns;
+pub mod columns;
 mod misfits;
 
 use columns::gather;
 use limits::DataItems;
 use misfits::misfits;
 use row_tests::Found;
+use row_tests::cells::ROWS;
 ghost use Prim.Native.Nat.{_≤_};
 ghost use lib.ListN.{length};
 ghost use Rattle.parts.specs.Part.{table};
 ghost use Rattle.types.specs.Judged.{Judged, Judged-with};
-
-const ROWS: usize = 65_536;
 
 // With the columns of the first `m` data items.
 fn judged(

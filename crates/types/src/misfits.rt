@@ -1,4 +1,5 @@
 // The rows whose expression has no type that fits its role.
+use guideline_rows::Kind;
 use limits::Expression;
 use row_tests::Found;
 use row_tests::cells::begin;
@@ -6,7 +7,6 @@ use row_tests::cells::end;
 use row_tests::cells::handle;
 use row_tests::cells::kind;
 use row_tests::least::nearer;
-use terminals::Terminal;
 use typer::fits;
 use typer::fitting::Role;
 ghost use mathlib.Core.Path.{_≡_};
@@ -14,22 +14,16 @@ ghost use Rattle.parts.specs.Part.{table};
 ghost use Rattle.types.specs.Roles.{wording-kind, roleOf};
 ghost use Rattle.types.specs.Judged.{Unfits, Judges, AllMisfits};
 
-const CAPTION: usize = Terminal::CAPTION as usize;
-
-const DESCRIPTION: usize = Terminal::DESCRIPTION as usize;
-
 const ROOT: usize = 0;
-
-const ASSIGNMENT: usize = Terminal::EQUALS as usize;
 
 // A caption or description.
 fn is_wording(k: usize) -> bool
     ensures { λ r. ⌜ r ≡ wording-kind k ⌝ }
 {
-    if k == CAPTION {
+    if k == Kind::CAPTION {
         return true;
     }
-    k == DESCRIPTION
+    k == Kind::DESCRIPTION
 }
 
 // What the expression of the row is written for: an assignment, a caption or description, or a condition.
@@ -37,7 +31,7 @@ fn role(rows: &[u32], j: usize) -> Role
     ensures { λ r. ⌜ r ≡ roleOf (now (rows .entry)) j ⌝ }
 {
     let k = kind(rows, j);
-    if k == ASSIGNMENT {
+    if k == Kind::EQUALS {
         return Role::Assigned(handle(rows, j));
     }
     if is_wording(k) {

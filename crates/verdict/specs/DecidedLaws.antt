@@ -3,7 +3,6 @@ use Prim.Native.Nat.{ℕ, _*_, _≤_}
 use mathlib.Core.Path.{_≡_, refl, subst}
 use mathlib.Core.List.{List}
 use Rattle.paper_expressions.specs.Laws.Tests.{contra}
-use Rattle.paper_guideline.specs.Refusals as Refusals
 use lib.ListN.{length}
 use Rattle.paper_guideline.specs.Limits.{guideline-limit, part-limit}
 use Rattle.parts.specs.Part.{Table}
@@ -13,6 +12,7 @@ use Rattle.answering.specs.declared.Answer.the-variants as Answer
 use Rattle.answering.specs.Reply.{Reply, Answered}
 use Rattle.answering.specs.Stages.{never-both, swapped}
 use Rattle.stages.specs.Judged.{Short}
+use Rattle.reading.specs.Laws.{same-refusal}
 use Rattle.paper_guideline.specs.Laws.RefusalLaws.{one-answer}
 use Rattle.verdict.specs.declared.Verdict.{Verdict}
 use Rattle.verdict.specs.declared.Verdict.the-variants.{Loads, Refused}
@@ -33,11 +33,8 @@ module _ {text x z : List ℕ} {t u : Table} {r : Answer} (a : Answered text x t
 
 -- ---- only one reply fits
 
-same-refusal : {n m p q : ℕ} → Refusals.refused n p ≡ Refusals.refused m q → Refused n p ≡ Refused m q
-same-refusal {n} {m} {p} {q} e = let x : n ≡ m = cc in let y : p ≡ q = cc in cc
-
 pub one-reply : (text : List ℕ) (r s : Verdict) → Decides text r → Decides text s → r ≡ s
 one-reply text Loads Loads a b = refl
 one-reply text Loads (Refused n p) a b = never-both a b
 one-reply text (Refused n p) Loads a b = never-both b a
-one-reply text (Refused n p) (Refused m q) a b = same-refusal (one-answer a b)
+one-reply text (Refused n p) (Refused m q) a b = same-refusal Refused (one-answer a b)

@@ -13,12 +13,12 @@ returns c =
 returns-2 : tie.Need-returns-2
 returns-2 c =
     let a = c .before .before .before .before .before .args in
-    arm (a .f .now) (a .s .now) (a .d) (c .name .result) (a .p) name (c .before .before .match .keys2) (of-name (a .f .now) (a .s .now) (a .d) (c .name .result) (c .before .before .before .before .before .pre) (c .before .cell .ensures) (c .name .ensures))
+    arm (a .f .now) (a .s .now) (a .d) (c .name .result) (a .p) name (c .before .before .match .keys2) (of-name (a .f .now) (a .s .now) (a .d) (c .name .result) (c .before .before .before .before .before .pre) (c .before .number .ensures) (c .name .ensures))
 
 returns-3 : tie.Need-returns-3
 returns-3 c =
     let a = c .before .before .before .before .before .args in
-    arm (a .f .now) (a .s .now) (a .d) (c .plain2 .result) (a .p) type (c .before .before .match .keys3) (of-type (a .f .now) (a .s .now) (a .d) (c .plain2 .result) (c .before .before .before .before .before .pre) (c .before .cell2 .ensures) (c .plain2 .ensures))
+    arm (a .f .now) (a .s .now) (a .d) (c .plain2 .result) (a .p) type (c .before .before .match .keys3) (of-type (a .f .now) (a .s .now) (a .d) (c .plain2 .result) (c .before .before .before .before .before .pre) (c .before .cell .ensures) (c .plain2 .ensures))
 
 returns-4 : tie.Need-returns-4
 returns-4 c =
@@ -28,7 +28,7 @@ returns-4 c =
 returns-5 : tie.Need-returns-5
 returns-5 c =
     let a = c .before .before .before .before .before .before .args in
-    arm (a .f .now) (a .s .now) (a .d) (c .by-cells .result) (a .p) requested (c .before .before .before .match .keys5) (of-requested (a .f .now) (a .s .now) (a .d) (c .by-cells .result) (c .before .before .before .before .before .before .pre) (c .before .before .cell3 .ensures) (c .before .cell4 .ensures) (c .by-cells .ensures))
+    arm (a .f .now) (a .s .now) (a .d) (c .by-cells .result) (a .p) requested (c .before .before .before .match .keys5) (of-requested (a .f .now) (a .s .now) (a .d) (c .by-cells .result) (c .before .before .before .before .before .before .pre) (c .before .before .cell2 .ensures) (c .before .cell3 .ensures) (c .by-cells .ensures))
 
 returns-6 : tie.Need-returns-6
 returns-6 c =

@@ -2,6 +2,7 @@
 use Prim.Native.Nat.{_≤_, _-_, _/_}
 use native.Mathlib.Omega.{arith}
 use native.Mathlib.Nat.{not-suc-le-zero}
+use borrow.Author.Tests.{not-true, not-false}
 use Rattle.triggering.specs.Hit.{Agree, agree-more, other-size, other-byte, agreed}
 use borrow.Author.Needs.{needs}
 use Rattle.triggering.proofs.same_text.Statement.{statement}
@@ -23,13 +24,13 @@ loop-holds c = (omega arith, λ j l. absurd (not-suc-le-zero l))
 
 returns-2 : tie.Need-returns-2 Inv-loop μ-loop
 returns-2 c =
-    let a = c .before .before .before .before .before .before .before .before .args in
-    other-byte (a .b .now) (a .h) (a .name .now) (c .before .before .before .before .loop .k) (omega arith) (c .before .before .at .ensures) (c .before .byte .ensures) (c .if2 .taken)
+    let a = c .before .before .before .before .before .before .before .args in
+    other-byte (a .b .now) (a .h) (a .name .now) (c .before .before .before .loop .k) (omega arith) (c .before .same-byte .ensures) (not-true _ (c .if2 .taken))
 
 loop-again : tie.Need-loop-again Inv-loop μ-loop
 loop-again c =
-    let a = c .before .before .before .before .before .before .before .before .args in
-    (omega arith, agree-more (a .b .now) (a .h / 64) (a .name .now) (c .before .before .before .before .loop .k) (c .before .before .at .ensures) (c .before .byte .ensures) (c .if2 .left) (c .before .before .before .before .loop .inv .1))
+    let a = c .before .before .before .before .before .before .before .args in
+    (omega arith, agree-more (a .b .now) (a .h / 64) (a .name .now) (c .before .before .before .loop .k) (c .before .same-byte .ensures) (not-false _ (c .if2 .left)) (c .before .before .before .loop .inv .1))
 
 returns-3 : tie.Need-returns-3 Inv-loop μ-loop
 returns-3 c =
@@ -44,7 +45,7 @@ same-text-spec =
     μ-loop
     returns
     loop-holds
-    (λ c κs. search needs) (λ c κs. search needs)
+    (λ c κs. search needs)
     returns-2
     (λ c. search needs) (λ c. search needs)
     loop-again

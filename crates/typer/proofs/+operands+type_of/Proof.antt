@@ -11,7 +11,7 @@ use Rattle.parts.proofs.code.Reads as code-reads
 use Rattle.parts.proofs.count.Reads as count-reads
 use Rattle.parts.proofs.load.Reads as load-reads
 use Rattle.typer.specs.declared.lists.Summary.{Summary}
-use Rattle.typer.specs.Typed.{Going, going-first, going-on, going-stop, going-done, nothing-ends, too-deep, by-leaf, by-operands}
+use Rattle.typer.specs.TypedLaws.{Going, going-first, going-on, going-stop, going-done, nothing-ends, too-deep, by-leaf, by-operands}
 use Rattle.typer.proofs.operands.Reads as operands
 use Rattle.typer.proofs.operands.Kinds as operands-kinds
 use Rattle.typer.proofs.+operands+type_of.Lts-operands as operands-lts
