@@ -42,11 +42,33 @@ fn list(rows: &[u32], texts: &[u8], plan: &[u32], s: Sort) {
     write::text(b".");
 }
 
+// Whether there is one at all.
+fn any(plan: &[u32], s: Sort) -> bool {
+    let n = count(plan, s);
+    let mut i = 0usize;
+    while i < n {
+        if is_there(plan, s, i) {
+            return true;
+        }
+        i += 1;
+    }
+    false
+}
+
+// All of them, or that there is none.
+fn all_or_none(rows: &[u32], texts: &[u8], plan: &[u32], s: Sort) {
+    if any(plan, s) {
+        list(rows, texts, plan, s);
+        return;
+    }
+    write::text(b" There is none.");
+}
+
 // The one that is a slip away, or all of them.
 fn nearest(rows: &[u32], texts: &[u8], plan: &[u32], s: Sort, name: &[u8]) {
     let i = first(rows, texts, plan, s, name, true);
     if count(plan, s) <= i {
-        list(rows, texts, plan, s);
+        all_or_none(rows, texts, plan, s);
         return;
     }
     write::text(b" There is a ");
