@@ -45,10 +45,10 @@ use Rattle.paper_guideline.specs.Refusals
 use Refusals.{text-stage, lexical-stage, count-stage, Opening, opens-round, opens-square, TooManyOpen, one-too-many, one-more-open, one-fewer-open, as-many-open, TokenBreach, long-name, long-text, large-integer, large-real, long-fraction}
 use Rattle.paper_guideline.specs.Line
 use Line.{no-items, LineTree, LineBreach, line-high-byte, line-long, line-no-rule, line-many-tokens, line-many-open, LineAnswer, refused, gives, LineAnswers}
-use Rattle.line.specs.Steps.{Before}
-use Rattle.line.specs.Stages.{after, no-sentence, sentence, nothing-left-out, over-limit, deep, long-lists, too-many-parts, within-limits, untyped, given}
-use Rattle.line.specs.Given.{apart, sound}
-use Rattle.line.specs.Tests.{nothing-behind}
+use Rattle.line_answer.specs.Steps.{Before}
+use Rattle.line_answer.specs.Stages.{after, no-sentence, sentence, nothing-left-out, over-limit, deep, long-lists, too-many-parts, within-limits, untyped, given}
+use Rattle.line_answer.specs.Given.{apart, sound}
+use Rattle.line_answer.specs.Tests.{nothing-behind}
 
 -- ---- the tests
 

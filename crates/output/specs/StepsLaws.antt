@@ -17,7 +17,7 @@ use Rattle.lines.specs.Run.{line-written, Run, line-ends, line-goes-on, last-li
 use Rattle.lines.specs.RunLaws.{moves-on}
 use Rattle.lines.specs.declared.Taken.{Taken}
 use Rattle.written.specs.Limit.{answer-limit}
-use Rattle.line.specs.Reply.{Answered, Reply}
+use Rattle.line_answer.specs.Reply.{Answered, Reply}
 use Rattle.output.specs.Steps.{line-limit, number-limit, following, Put, Room, LineWritten, Steps, Ends}
 use Rattle.output.specs.declared.State.{State}
 

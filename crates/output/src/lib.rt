@@ -3,7 +3,7 @@ use written::Answer;
 ghost use mathlib.Core.Path.{_≡_};
 ghost use lib.ListN.{length, take};
 ghost use Rattle.digits.specs.Appends.{Appends};
-ghost use Rattle.line.specs.Reply.{Reply};
+ghost use Rattle.line_answer.specs.Reply.{Reply};
 ghost use Rattle.output.specs.Steps.{line-limit, following, Room, Starts, LineWritten, Steps, Ends};
 
 pub struct Written;
@@ -46,9 +46,9 @@ fn answer(kept: &[u8], n: usize, text: &mut [u8]) -> usize
     ensures { λ r. ⌜ Reply (take n (now (kept .entry))) (length (now (text .entry))) (now (text .exit)) r ⌝ }
 {
     if kept.len() < n {
-        return line::answer(kept, text);
+        return line_answer::answer(kept, text);
     }
-    line::answer(&kept[..n], text)
+    line_answer::answer(&kept[..n], text)
 }
 
 // The first n bytes of a text.

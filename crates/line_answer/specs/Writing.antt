@@ -11,8 +11,8 @@ use Rattle.paper_guideline.specs.Line.{LineAnswer, refused, gives, LineAnswers,
 use Rattle.tokens.specs.Reply.{filled, blank}
 use Rattle.digits.specs.Appends.{placed, Appends}
 use Rattle.written.specs.Longest.{longest-refusal, longest-answer}
-use Rattle.line.specs.Reply.{Answered}
-use Rattle.line.specs.Steps.{Blank}
+use Rattle.line_answer.specs.Reply.{Answered}
+use Rattle.line_answer.specs.Steps.{Blank}
 
 drop-blank : (k n : ℕ) → drop k (blank n) ≡ blank (n - k)
 drop-blank zero n = ap blank (let e : n ≡ n - 0 = omega arith in e)

@@ -1,11 +1,11 @@
 -- `line::answer` meets its contract: too few cells, a refusal by the tokens, or what the tests and the value give.
 use lib.ListN.{length}
-use Rattle.line.specs.Writing.{refuses}
+use Rattle.line_answer.specs.Writing.{refuses}
 use Rattle.columns.specs.Replies.{not-short, few, cut}
-use Rattle.line.specs.Whole.{early, read, are-blank, no-answer, an-answer}
+use Rattle.line_answer.specs.Whole.{early, read, are-blank, no-answer, an-answer}
 use borrow.Author.Needs.{needs}
-use Rattle.line.proofs.answer.Statement.{statement}
-use Rattle.line.proofs.answer.Tie as tie
+use Rattle.line_answer.proofs.answer.Statement.{statement}
+use Rattle.line_answer.proofs.answer.Tie as tie
 
 returns : tie.Need-returns
 returns c = no-answer (length (c .before .before .before .before .before .before .before .args .out .now)) (c .before .before .before .clear-bytes .ensures) (c .before .before .before .before .before .before .before .args .line .now) (c .if1 .taken)

@@ -1,10 +1,10 @@
 -- `line::tested` meets its contract: a test refuses, or the value is found.
 use mathlib.Core.Path.{refl}
-use Rattle.line.specs.Tests.{no-parse, a-parse, no-fit, a-fit}
-use Rattle.line.specs.Writing.{refuses}
+use Rattle.line_answer.specs.Tests.{no-parse, a-parse, no-fit, a-fit}
+use Rattle.line_answer.specs.Writing.{refuses}
 use borrow.Author.Needs.{needs}
-use Rattle.line.proofs.tested.Statement.{statement}
-use Rattle.line.proofs.tested.Tie as tie
+use Rattle.line_answer.proofs.tested.Statement.{statement}
+use Rattle.line_answer.proofs.tested.Tie as tie
 
 returns : tie.Need-returns
 returns c =

@@ -25,16 +25,16 @@ use Rattle.token_tests.specs.declared.Found.the-variants.{At, Nowhere}
 use Rattle.token_tests.specs.Reply.{OverLimit, First}
 use Rattle.expression_steps.specs.declared.Built.{Built}
 use Rattle.expression_reader.specs.Reads.{Whole, Reads, parts-size, within-depth}
-use Rattle.line.specs.declared.tests.Verdict.{Verdict}
-use Rattle.line.specs.declared.tests.Verdict.the-variants.{Fine, Refused}
+use Rattle.line_answer.specs.declared.tests.Verdict.{Verdict}
+use Rattle.line_answer.specs.declared.tests.Verdict.the-variants.{Fine, Refused}
 use Rattle.parts.specs.Part.{table}
-use Rattle.line.specs.declared.tests.Limited.{Limited}
-use Rattle.line.specs.declared.tests.Limited.the-variants as Limited
-use Rattle.line.specs.Steps.{Lexed, Parsed, Fitting, Held, Parses, Fitted, Fits}
-use Rattle.line.specs.Stages.{few-tokens, few-open, no-sentence, sentence, uses, nothing-left-out, over-limit, deep, long-lists, too-many-parts, within-limits}
+use Rattle.line_answer.specs.declared.tests.Limited.{Limited}
+use Rattle.line_answer.specs.declared.tests.Limited.the-variants as Limited
+use Rattle.line_answer.specs.Steps.{Lexed, Parsed, Fitting, Held, Parses, Fitted, Fits}
+use Rattle.line_answer.specs.Stages.{few-tokens, few-open, no-sentence, sentence, uses, nothing-left-out, over-limit, deep, long-lists, too-many-parts, within-limits}
 use Rattle.columns.specs.Columns.{as-many}
 use Rattle.columns.specs.Clean.{clean}
-use Rattle.line.specs.Modest.{modest}
+use Rattle.line_answer.specs.Modest.{modest}
 
 pub nothing-behind : Tree.Ends anywhere []
 nothing-behind = record { no-operator = refl; no-call = refl }

@@ -11,8 +11,8 @@ use tokens::Read;
 use written::Answer;
 ghost use mathlib.Core.Path.{_≡_};
 ghost use lib.ListN.{length};
-ghost use Rattle.line.specs.Reply.{Reply, Answered};
-ghost use Rattle.line.specs.Steps.{Blank, Lexed};
+ghost use Rattle.line_answer.specs.Reply.{Reply, Answered};
+ghost use Rattle.line_answer.specs.Steps.{Blank, Lexed};
 
 // The tests on the tokens, and then the value.
 fn tested(line: &[u8], kinds: &[u8], places: &[usize], lengths: &[usize], out: &mut [u8]) -> usize

@@ -1,9 +1,9 @@
 -- `line::valued::value` meets its contract: no type, or a type and what has it.
 use mathlib.Core.Path.{refl}
-use Rattle.line.specs.Valued.{without-type, with-type}
+use Rattle.line_answer.specs.Valued.{without-type, with-type}
 use borrow.Author.Needs.{needs}
-use Rattle.line.proofs.valued.value.Statement.{statement}
-use Rattle.line.proofs.valued.value.Tie as tie
+use Rattle.line_answer.proofs.valued.value.Statement.{statement}
+use Rattle.line_answer.proofs.valued.value.Tie as tie
 
 returns : tie.Need-returns
 returns c = λ line h. without-type h refl (c .before .before .before .before .before .before .before .before .before .before .before .pre) (c .before .before .before .before .before .type-of .ensures) (c .before .before .before .before .if1 .taken) (c .before .before .refused .ensures)

@@ -1,8 +1,8 @@
 -- `line::parse` meets its contract: each exit is one of the laws of Tests.
-use Rattle.line.specs.Tests.{not-read, not-unread, is-read, left-out, parsed}
+use Rattle.line_answer.specs.Tests.{not-read, not-unread, is-read, left-out, parsed}
 use borrow.Author.Needs.{needs}
-use Rattle.line.proofs.tests.parse.Statement.{statement}
-use Rattle.line.proofs.tests.parse.Tie as tie
+use Rattle.line_answer.proofs.tests.parse.Statement.{statement}
+use Rattle.line_answer.proofs.tests.parse.Tie as tie
 
 returns : tie.Need-returns
 returns c = not-read (c .before .before .before .before .before .before .before .pre) (c .before .before .read .ensures) (c .enum-told2 .given .1)

@@ -18,11 +18,11 @@ use Rattle.parts.specs.Part.{table, Table, size, Ends, Within}
 use Rattle.resolution.specs.Letters.{letter}
 use Rattle.leaves.specs.Source.{source, Stand, Clean}
 use Rattle.written.specs.Limit.{answer-limit}
-use Rattle.line.specs.declared.tests.Verdict.{Verdict}
-use Rattle.line.specs.declared.tests.Verdict.the-variants.{Fine, Refused}
-use Rattle.line.specs.declared.tests.Limited.{Limited}
-use Rattle.line.specs.declared.tests.Limited.the-variants as Limited
-use Rattle.line.specs.Reply.{Answered}
+use Rattle.line_answer.specs.declared.tests.Verdict.{Verdict}
+use Rattle.line_answer.specs.declared.tests.Verdict.the-variants.{Fine, Refused}
+use Rattle.line_answer.specs.declared.tests.Limited.{Limited}
+use Rattle.line_answer.specs.declared.tests.Limited.the-variants as Limited
+use Rattle.line_answer.specs.Reply.{Answered}
 
 -- cells that are blank, and enough for every answer
 pub record Blank (out : List ℕ) : Type 0 where

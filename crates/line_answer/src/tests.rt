@@ -9,7 +9,7 @@ ghost use mathlib.Core.Path.{_≡_};
 ghost use Prim.Native.Nat.{_*_};
 ghost use lib.ListN.{length};
 ghost use Rattle.paper_guideline.specs.Limits.{part-limit};
-ghost use Rattle.line.specs.Steps.{Lexed, Parsed, Parses, Fits};
+ghost use Rattle.line_answer.specs.Steps.{Lexed, Parsed, Parses, Fits};
 
 // What the tests find: nothing, or the number of the refusal.
 pub enum Verdict {

@@ -14,9 +14,9 @@ use Rattle.parts.specs.Part.{table}
 use Rattle.leaves.specs.Source.{source}
 use Rattle.expression_steps.specs.declared.Built.{Built}
 use Rattle.expression_reader.specs.Reads.{Reads, bare-size, parts-size}
-use Rattle.line.specs.Steps.{Before, Fitting, Held}
-use Rattle.line.specs.Stages.{line-tree}
-use Rattle.line.specs.Tests.{read}
+use Rattle.line_answer.specs.Steps.{Before, Fitting, Held}
+use Rattle.line_answer.specs.Stages.{line-tree}
+use Rattle.line_answer.specs.Tests.{read}
 
 short-line : (line : List ℕ) {n : ℕ} → 0 < n → Before line n → length line ≤ guideline-limit
 short-line line l f = ⊎-elim (λ h. h) (λ h. absurd (f text-stage l (line-long h))) (le-or-gt (length line) guideline-limit)

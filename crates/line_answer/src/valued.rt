@@ -2,7 +2,7 @@
 use limits::Expression;
 ghost use lib.ListN.{length};
 ghost use Rattle.parts.specs.Part.{table};
-ghost use Rattle.line.specs.Steps.{Blank, Worth, Comes};
+ghost use Rattle.line_answer.specs.Steps.{Blank, Worth, Comes};
 
 // The value of an expression of the type with the letter, whose parts end before `end`. There are no data items and no tasks.
 fn worth(cells: &[u32], bytes: &[u8], end: usize, letter: u8, out: &mut [u8]) -> usize

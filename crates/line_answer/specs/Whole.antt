@@ -13,11 +13,11 @@ use Rattle.tokens.specs.declared.Read.{Read}
 use Rattle.tokens.specs.declared.Read.the-variants.{Tokens, Refused, Short}
 use Rattle.tokens.specs.Reply.{filled, blank, Reads}
 use Rattle.written.specs.Limit.{answer-limit}
-use Rattle.line.specs.Reply.{Answered, Reply}
-use Rattle.line.specs.Steps.{Blank, Lexed}
-use Rattle.line.specs.Stages.{early-refusal}
+use Rattle.line_answer.specs.Reply.{Answered, Reply}
+use Rattle.line_answer.specs.Steps.{Blank, Lexed}
+use Rattle.line_answer.specs.Stages.{early-refusal}
 use Rattle.columns.specs.Replies.{turned}
-use Rattle.line.specs.Columns.{lexed}
+use Rattle.line_answer.specs.Columns.{lexed}
 
 -- ---- the tokens
 

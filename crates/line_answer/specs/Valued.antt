@@ -18,11 +18,11 @@ use Rattle.evaluator.specs.Columns.{columns}
 use Rattle.evaluator.specs.Published.{Published}
 use Rattle.digits.specs.Appends.{Appends}
 use Rattle.written.specs.Named.{OfType, answer-of}
-use Rattle.line.specs.Reply.{Answered}
-use Rattle.line.specs.Steps.{Blank, Held, Worth}
-use Rattle.line.specs.Stages.{untyped, given}
-use Rattle.line.specs.Given.{type-is, value-is, value-limited}
-use Rattle.line.specs.Writing.{refuses, answers}
+use Rattle.line_answer.specs.Reply.{Answered}
+use Rattle.line_answer.specs.Steps.{Blank, Held, Worth}
+use Rattle.line_answer.specs.Stages.{untyped, given}
+use Rattle.line_answer.specs.Given.{type-is, value-is, value-limited}
+use Rattle.line_answer.specs.Writing.{refuses, answers}
 
 no-type : {P : Ty → Type 0} {r : ℕ} → Outcome P r → r ≡ 0 → (t : Ty) → ¬ P t
 no-type (is {t = u} h) e = absurd (no-clash (cc (letter-some u, eq-eqb (letter u) 0 e)))

@@ -29,7 +29,7 @@ use Rattle.paper_guideline.specs.Line
 use Line.{no-items, LineTree, LineBreach, refused, gives, LineAnswers, line-refused, line-gives}
 use Line.{line-high-byte, line-long, line-no-rule, line-many-tokens, line-many-open, line-no-expression, line-left-out, line-token, line-deep, line-long-list, line-many-parts, line-no-type}
 use Rattle.paper_guideline.specs.Laws.LineLaws.{one-line-tree}
-use Rattle.line.specs.Steps.{Before}
+use Rattle.line_answer.specs.Steps.{Before}
 use Rattle.paper_guideline.specs.Laws.RefusalLaws.{by-turn, by-its-turn, le-or-gt}
 
 -- ---- the first three stages, as load tests them

@@ -1,9 +1,9 @@
 -- `line::fit` meets its contract: each exit is one of the laws of Tests, and the parts are those of the tree.
-use Rattle.line.specs.Tests.{over, none-over, too-deep, too-long, too-many, fitting}
-use Rattle.line.specs.Table.{held}
+use Rattle.line_answer.specs.Tests.{over, none-over, too-deep, too-long, too-many, fitting}
+use Rattle.line_answer.specs.Table.{held}
 use borrow.Author.Needs.{needs}
-use Rattle.line.proofs.tests.fit.Statement.{statement}
-use Rattle.line.proofs.tests.fit.Tie as tie
+use Rattle.line_answer.proofs.tests.fit.Statement.{statement}
+use Rattle.line_answer.proofs.tests.fit.Tie as tie
 
 returns : tie.Need-returns
 returns c = record { fitted = over (c .before .before .before .before .before .before .before .before .pre .0) (c .before .before .past-limit .ensures) (c .enum-told .given .1) }
