@@ -1,17 +1,27 @@
 // What a value is that was given, and what a data item takes, in words.
+use libc::STDOUT_FILENO;
 use sentences::write;
 use typed_value::Kind;
 use typed_value::Room;
 
+// The place of an element, given by its tag, among the texts below.
+fn place_of(tag: u32) -> usize {
+    match tag {
+        Kind::TRUTH => 0,
+        Kind::INTEGER => 1,
+        Kind::REAL => 2,
+        Kind::TEXT => 3,
+        _ => 4,
+    }
+}
+
 // An element, by its tag.
 fn element(tag: u32) {
-    match tag {
-        Kind::TRUTH => write::text(b"a truth value"),
-        Kind::INTEGER => write::text(b"an integer"),
-        Kind::REAL => write::text(b"a real"),
-        Kind::TEXT => write::text(b"a text"),
-        _ => write::text(b"unknown"),
-    }
+    pieces::write(
+        STDOUT_FILENO,
+        b"a truth value|an integer|a real|a text|unknown",
+        place_of(tag),
+    );
 }
 
 // How many elements a value of this shape has: it is one, or a list.

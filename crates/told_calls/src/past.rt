@@ -1,7 +1,7 @@
 // Which limit a value passes that was refused with 6.
 use crate::kinds::count;
+use libc::STDOUT_FILENO;
 use numbers::Num;
-use sentences::write;
 use typed_value::Kind;
 use values::List;
 
@@ -48,16 +48,29 @@ fn first(tags: &[u32], numbers: &[i64], n: usize) -> u32 {
     Kind::UNKNOWN
 }
 
-// The limit that the value passes: if it is not its length and no number, it is a text.
-pub fn tell(tags: &[u32], numbers: &[i64]) {
+// The place of a limit among the texts below: that of a number with this tag, or else of a text.
+fn place_of(tag: u32) -> usize {
+    match tag {
+        Kind::INTEGER => 1,
+        Kind::REAL => 2,
+        _ => 3,
+    }
+}
+
+// Which limit the value passes: if it is not its length and no number, it is a text.
+fn limit(tags: &[u32], numbers: &[i64]) -> usize {
     let n = count(blocks::cell(tags, 0));
     if List::LIST_LIMIT < n {
-        write::text(b"a list has at most 16 elements.\n");
-        return;
+        return 0;
     }
-    match first(tags, numbers, n) {
-        Kind::INTEGER => write::text(b"integers lie within plus or minus 2,000,000.\n"),
-        Kind::REAL => write::text(b"reals lie within plus or minus 2,000,000.\n"),
-        _ => write::text(b"a text has at most 48 bytes, in plain ASCII.\n"),
-    }
+    place_of(first(tags, numbers, n))
+}
+
+// The limit that the value passes.
+pub fn tell(tags: &[u32], numbers: &[i64]) {
+    pieces::write(
+        STDOUT_FILENO,
+        b"a list has at most 16 elements.\n|integers lie within plus or minus 2,000,000.\n|reals lie within plus or minus 2,000,000.\n|a text has at most 48 bytes, in plain ASCII.\n",
+        limit(tags, numbers),
+    );
 }

@@ -1,5 +1,5 @@
-// The names of the properties that a row of the first edition may have, by their numbers.
-use sentences::write;
+// The names of the properties, by their numbers.
+use libc::STDOUT_FILENO;
 
 pub struct Property {}
 
@@ -12,40 +12,10 @@ impl Property {
     pub const SOURCES: u64 = 35;
 }
 
-// Those that change, and those of data items.
-fn changing(p: u64) {
-    match p {
-        17 => write::text(b"confirmed"),
-        18 => write::text(b"cycle_count"),
-        19 => write::text(b"nbr_cycles_value"),
-        24 => write::text(b"start_at"),
-        26 => write::text(b"terminal"),
-        29 => write::text(b"in_progress_time"),
-        30 => write::text(b"discarded_time"),
-        31 => write::text(b"completed_time"),
-        32 => write::text(b"terminate_condition"),
-        Property::SOURCES => write::text(b"sources"),
-        40 => write::text(b"actual_procedure"),
-        41 => write::text(b"type"),
-        42 => write::text(b"value"),
-        50 => write::text(b"requested"),
-        _ => write::text(b"a property that no row has"),
-    }
-}
+// Their names in the order of section 10.
+const NAMES: [u8; 713] =
+    *b"class|name|caption|actual_caption|description|actual_description|state|antecedent_tasks|goal|precondition|wait_condition|trigger|trigger_active|postcondition|parameters|parent_plan|confirmatory|confirmed|cycle_count|nbr_cycles_value|nbr_cycles_expression|cycle_until|cycle_interval|cycle_interval_units|start_at|optional|terminal|lwth|context|in_progress_time|discarded_time|completed_time|terminate_condition|abort_condition|candidates|sources|support_mode|choice_mode|result|procedure|actual_procedure|type|value|range_values|range_expressions|default_value|mandatory_validation|warning_conditions|derivation_rule|unit|requested|recommendation|priority|arguments|support|expression|data_item|mandatory|activated";
 
 pub fn name(p: u64) {
-    match p {
-        0 => write::text(b"class"),
-        1 => write::text(b"name"),
-        6 => write::text(b"state"),
-        Property::ANTECEDENT_TASKS => write::text(b"antecedent_tasks"),
-        9 => write::text(b"precondition"),
-        10 => write::text(b"wait_condition"),
-        11 => write::text(b"trigger"),
-        12 => write::text(b"trigger_active"),
-        Property::POSTCONDITION => write::text(b"postcondition"),
-        15 => write::text(b"parent_plan"),
-        16 => write::text(b"confirmatory"),
-        _ => changing(p),
-    }
+    pieces::write(STDOUT_FILENO, &NAMES, p as usize);
 }

@@ -1,95 +1,93 @@
 // Types and operators in words: how they are called, and what they take by section 11.
+use libc::STDOUT_FILENO;
 use parts::Code;
-use sentences::write;
+
+// The place of a type, given by its letter, among the texts below.
+fn place_of(letter: u8) -> usize {
+    match letter {
+        b'T' => 0,
+        b'I' => 1,
+        b'R' => 2,
+        b'B' => 3,
+        b't' => 4,
+        b'i' => 5,
+        b'r' => 6,
+        b'a' => 7,
+        _ => 8,
+    }
+}
 
 // A type, by its letter.
 pub fn kind(letter: u8) {
-    match letter {
-        b'T' => write::text(b"a text"),
-        b'I' => write::text(b"an integer"),
-        b'R' => write::text(b"a real"),
-        b'B' => write::text(b"a truth value"),
-        b't' => write::text(b"a list of texts"),
-        b'i' => write::text(b"a list of integers"),
-        b'r' => write::text(b"a list of reals"),
-        b'a' => write::text(b"an empty list"),
-        _ => write::text(b"what has no type"),
-    }
+    pieces::write(
+        STDOUT_FILENO,
+        b"a text|an integer|a real|a truth value|a list of texts|a list of integers|a list of reals|an empty list|what has no type",
+        place_of(letter),
+    );
 }
 
 // What a data item takes, by the number of its declared type.
 pub fn declared(d: usize) {
-    match d {
-        1 => write::text(b"a text"),
-        2 => write::text(b"an integer"),
-        3 => write::text(b"a text, for it is boolean"),
-        4 => write::text(b"a number, for it is a datetime"),
-        5 => write::text(b"a number, for it is a date"),
-        6 => write::text(b"a number, for it is a time"),
-        7 => write::text(b"a number"),
-        8 => write::text(b"a list of texts"),
-        9 => write::text(b"a list of integers"),
-        10 => write::text(b"a list of numbers"),
-        _ => write::text(b"nothing"),
+    pieces::write(
+        STDOUT_FILENO,
+        b"nothing|a text|an integer|a text, for it is boolean|a number, for it is a datetime|a number, for it is a date|a number, for it is a time|a number|a list of texts|a list of integers|a list of numbers|nothing",
+        d,
+    );
+}
+
+// The place of an operator that stands between its operands among the texts below.
+fn sign(c: usize) -> usize {
+    match c {
+        Code::PLUS => 0,
+        Code::TIMES => 1,
+        Code::DIVIDE => 2,
+        Code::GREATER => 3,
+        Code::LESS => 4,
+        Code::GREATER_OR_EQUAL => 5,
+        Code::LESS_OR_EQUAL => 6,
+        Code::EQUAL => 7,
+        Code::NOT_EQUAL => 8,
+        Code::AND => 9,
+        Code::OR => 10,
+        Code::INCLUDES => 11,
+        Code::ONEOF => 12,
+        _ => 25,
     }
 }
 
-// An operator between its operands.
-fn sign(c: usize) {
+// The place of an operator, given by the code of its part.
+fn operator(c: usize) -> usize {
     match c {
-        Code::PLUS => write::text(b"+"),
-        Code::MINUS => write::text(b"-"),
-        Code::TIMES => write::text(b"*"),
-        Code::DIVIDE => write::text(b"/"),
-        Code::GREATER => write::text(b">"),
-        Code::LESS => write::text(b"<"),
-        Code::GREATER_OR_EQUAL => write::text(b">="),
-        Code::LESS_OR_EQUAL => write::text(b"<="),
-        Code::EQUAL => write::text(b"="),
-        Code::NOT_EQUAL => write::text(b"!="),
-        Code::AND => write::text(b"and"),
-        Code::OR => write::text(b"or"),
-        Code::INCLUDES => write::text(b"includes"),
-        Code::ONEOF => write::text(b"oneof"),
-        _ => write::text(b"-"),
-    }
-}
-
-// An operator, by the code of its part.
-pub fn spelt(c: usize) {
-    match c {
-        Code::IF => write::text(b"if"),
-        Code::ISKNOWN => write::text(b"isknown"),
-        Code::NOT => write::text(b"not"),
-        Code::COUNT => write::text(b"count"),
-        Code::SUM => write::text(b"sum"),
-        Code::MAX => write::text(b"max"),
-        Code::MIN => write::text(b"min"),
-        Code::NTH => write::text(b"nth"),
-        Code::IS_DORMANT => write::text(b"is_dormant"),
-        Code::IS_IN_PROGRESS => write::text(b"is_in_progress"),
-        Code::IS_DISCARDED => write::text(b"is_discarded"),
-        Code::IS_COMPLETED => write::text(b"is_completed"),
+        Code::IF => 13,
+        Code::ISKNOWN => 14,
+        Code::NOT => 15,
+        Code::COUNT => 16,
+        Code::SUM => 17,
+        Code::MAX => 18,
+        Code::MIN => 19,
+        Code::NTH => 20,
+        Code::IS_DORMANT => 21,
+        Code::IS_IN_PROGRESS => 22,
+        Code::IS_DISCARDED => 23,
+        Code::IS_COMPLETED => 24,
         _ => sign(c),
     }
 }
 
-// What it takes, by the list of allowed types that its code stands for.
+// An operator, by the code of its part; a minus is spelt the same with one operand and with two.
+pub fn spelt(c: usize) {
+    pieces::write(
+        STDOUT_FILENO,
+        b"+|*|/|>|<|>=|<=|=|!=|and|or|includes|oneof|if|isknown|not|count|sum|max|min|nth|is_dormant|is_in_progress|is_discarded|is_completed|-",
+        operator(c),
+    );
+}
+
+// What it takes, by the list of allowed types that its code stands for: the tens of the code.
 pub fn takes(c: usize) {
-    match c / 10 {
-        1 | 2 => write::text(b"two numbers"),
-        3 => write::text(b"two numbers, two texts, or two lists of the one or the other"),
-        4 => write::text(b"two truth values"),
-        5 => write::text(b"a list of numbers or texts, and then one number or text"),
-        6 => write::text(b"one number or text, and then a list of such"),
-        7 => write::text(b"a truth value, and then two values of one type"),
-        8 => write::text(b"a number"),
-        9 => write::text(b"one value"),
-        10 => write::text(b"a truth value"),
-        11 => write::text(b"one list"),
-        12 => write::text(b"one list of numbers"),
-        13 => write::text(b"one list, of numbers or of texts"),
-        14 => write::text(b"an integer and then a list"),
-        _ => write::text(b"the name of a task, which is a text"),
-    }
+    pieces::write(
+        STDOUT_FILENO,
+        b"two numbers|two numbers|two numbers|two numbers, two texts, or two lists of the one or the other|two truth values|a list of numbers or texts, and then one number or text|one number or text, and then a list of such|a truth value, and then two values of one type|a number|one value|a truth value|one list|one list of numbers|one list, of numbers or of texts|an integer and then a list|the name of a task, which is a text",
+        c / 10,
+    );
 }

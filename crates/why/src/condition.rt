@@ -1,5 +1,4 @@
 // What a condition is made of: the data items that it names with their values, the tasks that it asks for with their states.
-use crate::mentions;
 use limits::DataItems;
 use limits::Tasks;
 use sentences::write;

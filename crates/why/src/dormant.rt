@@ -1,6 +1,6 @@
 // What a dormant task waits for before it starts: 8.6.2, 8.6.5 and 8.6.6.
-use crate::ahead::Review;
 use crate::condition;
+use ahead::Review;
 use limits::Tasks;
 use sentences::slips;
 use sentences::write;

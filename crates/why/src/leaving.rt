@@ -1,6 +1,6 @@
 // Why the next cycle initialises, starts or discards a task: 8.6.1, 8.6.2, 8.6.3.
-use crate::ahead::Review;
 use crate::condition;
+use ahead::Review;
 use limits::Tasks;
 use sentences::slips;
 use sentences::write;

@@ -1,8 +1,7 @@
 // What a task in progress waits for before it is completed: 8.6.4, and 8.6.8 of a plan.
-use crate::ahead;
-use crate::ahead::Move;
-use crate::ahead::Review;
 use crate::condition;
+use ahead::Move;
+use ahead::Review;
 use limits::Sources;
 use limits::Tasks;
 use sentences::write;

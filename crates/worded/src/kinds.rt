@@ -1,42 +1,48 @@
-// States, classes and declared types by their numbers.
-use sentences::write;
+// States, classes and declared types by their numbers in docs/TABLES.md.
+use libc::STDOUT_FILENO;
 use state::Class;
 use state::State;
 
+// The place of a state among the texts below.
+fn state_place(n: usize) -> usize {
+    match n {
+        State::DORMANT => 0,
+        State::IN_PROGRESS => 1,
+        State::DISCARDED => 2,
+        State::COMPLETED => 3,
+        _ => 4,
+    }
+}
+
 // A state; one that a collision has made unknown is in none of the four.
 pub fn state(n: usize) {
+    pieces::write(
+        STDOUT_FILENO,
+        b"dormant|in_progress|discarded|completed|unknown",
+        state_place(n),
+    );
+}
+
+// The place of a class among the texts below.
+fn class_place(n: usize) -> usize {
     match n {
-        State::DORMANT => write::text(b"dormant"),
-        State::IN_PROGRESS => write::text(b"in_progress"),
-        State::DISCARDED => write::text(b"discarded"),
-        State::COMPLETED => write::text(b"completed"),
-        _ => write::text(b"unknown"),
+        Class::PLAN => 0,
+        Class::ACTION => 1,
+        Class::ENQUIRY => 2,
+        _ => 3,
     }
 }
 
 // The class of a task.
 pub fn class(n: usize) {
-    match n {
-        Class::PLAN => write::text(b"plan"),
-        Class::ACTION => write::text(b"action"),
-        Class::ENQUIRY => write::text(b"enquiry"),
-        _ => write::text(b"task"),
-    }
+    pieces::write(STDOUT_FILENO, b"plan|action|enquiry|task", class_place(n));
 }
 
-// The declared type of a data item, by its number in docs/TABLES.md.
+// The declared type of a data item.
 pub fn declared(n: usize) {
-    match n {
-        1 => write::text(b"text"),
-        2 => write::text(b"integer"),
-        3 => write::text(b"boolean"),
-        4 => write::text(b"datetime"),
-        5 => write::text(b"date"),
-        6 => write::text(b"time"),
-        7 => write::text(b"real"),
-        8 => write::text(b"setof_text"),
-        9 => write::text(b"setof_integer"),
-        10 => write::text(b"setof_real"),
-        _ => write::text(b"of no type"),
-    }
+    pieces::write(
+        STDOUT_FILENO,
+        b"of no type|text|integer|boolean|datetime|date|time|real|setof_text|setof_integer|setof_real|of no type",
+        n,
+    );
 }

@@ -1,0 +1,10 @@
+-- `ahead`: the marks of the task decide.
+use borrow.Author.Needs.{needs}
+use Rattle.ahead.proofs.ahead.Statement.{statement}
+use Rattle.ahead.proofs.ahead.Tie as tie
+
+returns : tie.Need-returns
+returns c = cc
+
+pub ahead-spec : {M : Type 1} → statement M
+ahead-spec = tie.close (tie.spec (λ c κs. search needs) (λ c κs. search needs) (λ c κs. search needs) (λ c κs. search needs) (λ c κs. search needs) returns)
