@@ -1,13 +1,11 @@
 // What a dormant task waits for before it starts: 8.6.2, 8.6.5 and 8.6.6.
 use crate::condition;
-use ahead::Review;
 use limits::Tasks;
 use sentences::slips;
 use sentences::write;
 use state::Plan;
 use state::Property;
 use waits::ended;
-use waits::mark;
 
 const STATES: usize = Property::STATE as usize + Tasks::LIMIT;
 
@@ -99,7 +97,8 @@ pub fn tell(
     plan: &[u32],
     waits: [[bool; 32]; 32],
     state: &[u32],
-    n: Review,
+    pre: bool,
+    wait: bool,
     t: usize,
 ) {
     if !conditions::parent_runs(state, plan, t) {
@@ -114,16 +113,5 @@ pub fn tell(
         return;
     }
     antecedents(rows, texts, plan, state, waits[t]);
-    let pre = n.pre;
-    let wait = n.wait;
-    untrue(
-        rows,
-        parts,
-        texts,
-        plan,
-        state,
-        mark(pre, t),
-        mark(wait, t),
-        t,
-    );
+    untrue(rows, parts, texts, plan, state, pre, wait, t);
 }

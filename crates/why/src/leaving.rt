@@ -1,6 +1,5 @@
 // Why the next cycle initialises, starts or discards a task: 8.6.1, 8.6.2, 8.6.3.
 use crate::condition;
-use ahead::Review;
 use limits::Tasks;
 use sentences::slips;
 use sentences::write;
@@ -10,7 +9,6 @@ use state::State;
 use state::Tag;
 use waits::Before;
 use waits::both;
-use waits::mark;
 ghost use mathlib.Core.Path.{_≡_};
 ghost use mathlib.Core.Bool.{_&&_};
 ghost use Rattle.state.specs.Layout.{rowIs};
@@ -23,7 +21,7 @@ fn by_trigger(texts: &[u8], plan: &[u32], t: usize) {
     write::text(b" was sent.\n");
 }
 
-// What its plan `p` does.
+// What its plan `p` does, as the reason.
 fn by_plan(rows: &[u32], texts: &[u8], plan: &[u32], p: usize, does: &[u8]) {
     write::text(b": its plan ");
     worded::task(rows, texts, plan, p);
@@ -31,20 +29,25 @@ fn by_plan(rows: &[u32], texts: &[u8], plan: &[u32], p: usize, does: &[u8]) {
 }
 
 // 8.6.1: its plan starts or is initialised, or else it is completed and was triggered.
-pub fn initialised(rows: &[u32], texts: &[u8], plan: &[u32], n: Review, t: usize) {
+pub fn initialised(
+    rows: &[u32],
+    texts: &[u8],
+    plan: &[u32],
+    starts: bool,
+    initialises: bool,
+    t: usize,
+) {
     write::text(b"  The next cycle initialises it");
     let x = state::cell(plan, Plan::PARENT, t);
     if x == 0 {
         by_trigger(texts, plan, t);
         return;
     }
-    let starts = n.starts;
-    if mark(starts, x - 1) {
+    if starts {
         by_plan(rows, texts, plan, x - 1, b" starts.\n");
         return;
     }
-    let initialises = n.initialises;
-    if mark(initialises, x - 1) {
+    if initialises {
         by_plan(rows, texts, plan, x - 1, b" is initialised.\n");
         return;
     }
@@ -99,8 +102,23 @@ fn unwanted(
     }
 }
 
+// What its plan `p` does, as a sentence.
+fn its_plan(rows: &[u32], texts: &[u8], plan: &[u32], p: usize, does: &[u8]) {
+    write::text(b"  Its plan ");
+    worded::task(rows, texts, plan, p);
+    write::text(does);
+}
+
 // 8.6.3, 1: its plan, in progress, is discarded or terminates; `x` is the plan and one.
-fn under(rows: &[u32], texts: &[u8], plan: &[u32], state: &[u32], n: Review, x: usize) {
+fn under(
+    rows: &[u32],
+    texts: &[u8],
+    plan: &[u32],
+    state: &[u32],
+    discards: bool,
+    ends: bool,
+    x: usize,
+) {
     if x == 0 {
         return;
     }
@@ -113,20 +131,15 @@ fn under(rows: &[u32], texts: &[u8], plan: &[u32], state: &[u32], n: Review, x: 
     ) {
         return;
     }
-    let discards = n.discards;
-    if mark(discards, x - 1) {
-        write::text(b"  Its plan ");
-        worded::task(rows, texts, plan, x - 1);
-        write::text(b" is discarded.\n");
+    if discards {
+        its_plan(rows, texts, plan, x - 1, b" is discarded.\n");
     }
-    let ended = n.ended;
-    if mark(ended, x - 1) {
-        write::text(b"  Its plan ");
-        worded::task(rows, texts, plan, x - 1);
-        write::text(b" terminates.\n");
+    if ends {
+        its_plan(rows, texts, plan, x - 1, b" terminates.\n");
     }
 }
 
+// `pre` and `wait`: whether its precondition and wait_condition are true; `discards` and `ends`: whether its plan is discarded, or terminates.
 pub fn discarded(
     rows: &[u32],
     parts: &[u32],
@@ -134,7 +147,10 @@ pub fn discarded(
     plan: &[u32],
     waits: [[bool; 32]; 32],
     state: &[u32],
-    n: Review,
+    pre: bool,
+    wait: bool,
+    discards: bool,
+    ends: bool,
     t: usize,
 ) {
     if Tasks::LIMIT <= t {
@@ -142,17 +158,9 @@ pub fn discarded(
     }
     write::text(b"  The next cycle discards it.\n");
     let b = waits::antecedents(state, waits[t]);
-    let wait = n.wait;
-    if is_due(plan, state, b, mark(wait, t), t) {
-        let pre = n.pre;
-        unwanted(rows, parts, texts, plan, state, b, mark(pre, t), t);
+    if is_due(plan, state, b, wait, t) {
+        unwanted(rows, parts, texts, plan, state, b, pre, t);
     }
-    under(
-        rows,
-        texts,
-        plan,
-        state,
-        n,
-        state::cell(plan, Plan::PARENT, t),
-    );
+    let x = state::cell(plan, Plan::PARENT, t);
+    under(rows, texts, plan, state, discards, ends, x);
 }

@@ -13,6 +13,11 @@ use state::Plan;
 use state::Property;
 use state::State;
 use state::Tag;
+use waits::mark;
+ghost use mathlib.Core.Path.{_≡_};
+ghost use mathlib.Core.Bool.{false};
+ghost use Prim.Native.Nat.{_-_, _<_};
+ghost use Rattle.waits.specs.Twins.{marked};
 
 // Where the Exception flag stands in the state table, and the numbers of the states.
 const FLAG: usize = 1;
@@ -49,6 +54,16 @@ fn head(rows: &[u32], texts: &[u8], plan: &[u32], state: &[u32], t: usize) {
     write::text(b".\n");
 }
 
+// A mark of a task's plan, where `x` is the plan and one.
+fn of_plan(marks: [bool; 32], x: usize) -> bool
+    ensures { λ r. ⌜ (x ≡ 0 → r ≡ false) × (0 < x → r ≡ marked marks (x - 1)) ⌝ }
+{
+    if x == 0 {
+        return false;
+    }
+    mark(marks, x - 1)
+}
+
 // A task that the next cycle leaves as it is: what it waits for.
 fn stays(
     rows: &[u32],
@@ -60,11 +75,69 @@ fn stays(
     n: Review,
     t: usize,
 ) {
+    let pre = n.pre;
+    let wait = n.wait;
     match state::cell(state, STATES, t) {
-        State::DORMANT => dormant::tell(rows, parts, texts, plan, waits, state, n, t),
+        State::DORMANT => dormant::tell(
+            rows,
+            parts,
+            texts,
+            plan,
+            waits,
+            state,
+            mark(pre, t),
+            mark(wait, t),
+            t,
+        ),
         State::IN_PROGRESS => running::tell(rows, parts, texts, plan, state, n, t),
         _ => {}
     }
+}
+
+// What initialises the task.
+fn initialised(rows: &[u32], texts: &[u8], plan: &[u32], n: Review, t: usize) {
+    let starts = n.starts;
+    let initialises = n.initialises;
+    let x = state::cell(plan, Plan::PARENT, t);
+    leaving::initialised(
+        rows,
+        texts,
+        plan,
+        of_plan(starts, x),
+        of_plan(initialises, x),
+        t,
+    );
+}
+
+// What discards the task.
+fn discarded(
+    rows: &[u32],
+    parts: &[u32],
+    texts: &[u8],
+    plan: &[u32],
+    waits: [[bool; 32]; 32],
+    state: &[u32],
+    n: Review,
+    t: usize,
+) {
+    let pre = n.pre;
+    let wait = n.wait;
+    let discards = n.discards;
+    let ended = n.ended;
+    let x = state::cell(plan, Plan::PARENT, t);
+    leaving::discarded(
+        rows,
+        parts,
+        texts,
+        plan,
+        waits,
+        state,
+        mark(pre, t),
+        mark(wait, t),
+        of_plan(discards, x),
+        of_plan(ended, x),
+        t,
+    );
 }
 
 // What the next cycle does with the task, and why; or what it waits for.
@@ -79,9 +152,9 @@ fn moves(
 ) {
     let n = ahead::next(parts, texts, plan, waits, state);
     match ahead::ahead(n, t) {
-        Move::Initialise => leaving::initialised(rows, texts, plan, n, t),
+        Move::Initialise => initialised(rows, texts, plan, n, t),
         Move::Start => leaving::started(texts, plan, state, t),
-        Move::Discard => leaving::discarded(rows, parts, texts, plan, waits, state, n, t),
+        Move::Discard => discarded(rows, parts, texts, plan, waits, state, n, t),
         Move::Complete => write::text(b"  The next cycle completes it.\n"),
         Move::Nothing => stays(rows, parts, texts, plan, waits, state, n, t),
     }

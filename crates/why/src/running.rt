@@ -2,6 +2,7 @@
 use crate::condition;
 use ahead::Move;
 use ahead::Review;
+use libc::STDOUT_FILENO;
 use limits::Sources;
 use limits::Tasks;
 use sentences::write;
@@ -83,18 +84,28 @@ fn settled(
     both(still, both(!a, both(!b, !i)))
 }
 
+// The place of what the next cycle does among the texts below.
+fn place_of(m: Move) -> usize {
+    match m {
+        Move::Initialise => 0,
+        Move::Start => 1,
+        Move::Discard => 2,
+        Move::Complete => 3,
+        Move::Nothing => 4,
+    }
+}
+
 // What a component does in the next cycle, or is.
-fn doing(state: &[u32], n: Review, c: usize) {
-    match ahead::ahead(n, c) {
-        Move::Initialise => write::text(b", which the next cycle initialises.\n"),
-        Move::Start => write::text(b", which the next cycle starts.\n"),
-        Move::Discard => write::text(b", which the next cycle discards.\n"),
-        Move::Complete => write::text(b", which the next cycle completes.\n"),
-        Move::Nothing => {
-            write::text(b", which is ");
-            worded::state(state::cell(state, STATES, c));
-            write::text(b".\n");
-        }
+fn doing(state: &[u32], m: Move, c: usize) {
+    let k = place_of(m);
+    pieces::write(
+        STDOUT_FILENO,
+        b", which the next cycle initialises.\n|, which the next cycle starts.\n|, which the next cycle discards.\n|, which the next cycle completes.\n|, which is ",
+        k,
+    );
+    if k == 4 {
+        worded::state(state::cell(state, STATES, c));
+        write::text(b".\n");
     }
 }
 
@@ -130,7 +141,7 @@ fn component(
     }
     write::text(b"  It waits for its component ");
     worded::task(rows, texts, plan, c);
-    doing(state, n, c);
+    doing(state, ahead::ahead(n, c), c);
 }
 
 // 8.6.8, 2, of the task `c`, if it is a component that ends the plan.
