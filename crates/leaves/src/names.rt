@@ -16,12 +16,14 @@ const FUNCTORS: usize = 13;
 
 const WIDTH: usize = 16;
 
-const NAMES: [u8; 208] =
+const BYTES: usize = FUNCTORS * WIDTH;
+
+const NAMES: [u8; BYTES] =
     *b"if              -               isknown         not             count           sum             max             min             nth             is_dormant      is_in_progress  is_discarded    is_completed    ";
 
-const LENGTHS: [usize; 13] = [2, 1, 7, 3, 5, 3, 3, 3, 3, 10, 14, 12, 12];
+const LENGTHS: [usize; FUNCTORS] = [2, 1, 7, 3, 5, 3, 3, 3, 3, 10, 14, 12, 12];
 // The numbers of the parts that they are.
-const CODES: [u8; 13] = [
+const CODES: [u8; FUNCTORS] = [
     Code::IF as u8,
     Code::NEGATE as u8,
     Code::ISKNOWN as u8,
@@ -87,13 +89,13 @@ pub fn handle(at: usize, n: usize) -> u32
 }
 
 // The tables are made once for a name, and handed on.
-fn names() -> [u8; 208]
+fn names() -> [u8; BYTES]
     ensures { λ r. ⌜ r ≡ name-bytes ⌝ }
 {
     NAMES
 }
 
-fn lengths() -> [usize; 13]
+fn lengths() -> [usize; FUNCTORS]
     ensures { λ r. ⌜ r ≡ name-lengths ⌝ }
 {
     LENGTHS

@@ -1,8 +1,8 @@
 // Whether one token is past a limit: the bytes of a name or a text, the size of a number, its digits behind the point.
+use leaves::literals::digits;
+use leaves::literals::fixed;
 use leaves::names::Span;
 use leaves::names::inside;
-use leaves::numbers::digits;
-use leaves::numbers::fixed;
 use limits::Literal;
 use numbers::Num;
 use parts::byte;
