@@ -5,7 +5,7 @@ ghost use mathlib.Core.Path.{_≡_};
 ghost use Prim.Native.Nat.{_+_, _-_, _≤_, _<_};
 ghost use lib.ListN.{length};
 ghost use Rattle.parts.specs.Texts.{cells};
-ghost use Rattle.leaves.specs.Numbers.{most, grown as grownOf, digits as digitsOf, three as threeOf, fixed as fixedOf, above as aboveOf, below as belowOf, signed};
+ghost use Rattle.leaves.specs.Numbers.{most, grown as grownOf, digits as digitsOf, three as threeOf, fixed as fixedOf, minus-first, unsigned as unsignedOf, below as belowOf, load-of as loadOf, signed};
 
 const BASE: u32 = 10;
 
@@ -99,11 +99,36 @@ pub fn fixed(text: &[u8], at: usize, n: usize) -> u32
     v * UNIT
 }
 
-fn above(v: u32) -> u32
-    requires { ⌜ v ≤ 2000023977 ⌝ }
-    ensures { λ r. ⌜ r ≡ aboveOf v ⌝ }
+// A number without its sign: whether it is a minus, and where the rest stands.
+pub struct Magnitude {
+    pub minus: bool,
+    pub at: usize,
+    pub n: usize,
+}
+
+pub fn unsigned(text: &[u8], at: usize, n: usize) -> Magnitude
+    requires { ⌜ at + n ≤ length (now text) ⌝ }
+    ensures { λ r. ⌜ (cells (now (text .entry)) (r .at) (r .n) ≡ unsignedOf (cells (now (text .entry)) at n)) × (r .at + r .n ≤ length (now (text .entry))) × (r .minus ≡ minus-first (cells (now (text .entry)) at n)) ⌝ }
 {
-    ZERO + v
+    if n == 0 {
+        return Magnitude {
+            minus: false,
+            at: at,
+            n: 0,
+        };
+    }
+    if byte(text, at) == b'-' {
+        return Magnitude {
+            minus: true,
+            at: at + 1,
+            n: n - 1,
+        };
+    }
+    Magnitude {
+        minus: false,
+        at: at,
+        n: n,
+    }
 }
 
 fn below(v: u32) -> u32
@@ -115,18 +140,24 @@ fn below(v: u32) -> u32
     ZERO - v
 }
 
+// The load of a number with its sign.
+fn load_of(minus: bool, v: u32) -> u32
+    requires { ⌜ v ≤ 2000023977 ⌝ }
+    ensures { λ r. ⌜ r ≡ loadOf minus v ⌝ }
+{
+    if minus {
+        return below(v);
+    }
+    ZERO + v
+}
+
 // The load of an integer token of `n` bytes.
 pub fn integer(text: &[u8], at: usize, n: usize) -> u32
     requires { ⌜ at + n ≤ length (now text) ⌝ }
     ensures { λ r. ⌜ r ≡ signed (digitsOf 0) (cells (now (text .entry)) at n) ⌝ }
 {
-    if n == 0 {
-        return above(digits(text, at, 0));
-    }
-    if byte(text, at) == b'-' {
-        return below(digits(text, at + 1, n - 1));
-    }
-    above(digits(text, at, n))
+    let s = unsigned(text, at, n);
+    load_of(s.minus, digits(text, s.at, s.n))
 }
 
 // The load of a float token of `n` bytes.
@@ -134,11 +165,6 @@ pub fn float(text: &[u8], at: usize, n: usize) -> u32
     requires { ⌜ at + n ≤ length (now text) ⌝ }
     ensures { λ r. ⌜ r ≡ signed (fixedOf 0) (cells (now (text .entry)) at n) ⌝ }
 {
-    if n == 0 {
-        return above(fixed(text, at, 0));
-    }
-    if byte(text, at) == b'-' {
-        return below(fixed(text, at + 1, n - 1));
-    }
-    above(fixed(text, at, n))
+    let s = unsigned(text, at, n);
+    load_of(s.minus, fixed(text, s.at, s.n))
 }

@@ -1,8 +1,8 @@
 // Whether one token names something that the first edition leaves out: a word, a functor or an exponent.
 use leaves::names::inside;
+use leaves::names::place_in;
 use parts::byte;
 use terminals::Terminal;
-use words::stands;
 ghost use mathlib.Core.Path.{_≡_};
 ghost use Prim.Native.Nat.{_+_, _≤_, _<_};
 ghost use lib.ListN.{length};
@@ -62,14 +62,7 @@ fn functor(text: &[u8], at: usize, n: usize) -> bool
 {
     let names = names();
     let lengths = lengths();
-    let mut i = 0;
-    while i < FUNCTORS {
-        if stands(text, at, n, &names, i * WIDTH, lengths[i]) {
-            return true;
-        }
-        i += 1;
-    }
-    false
+    place_in(text, at, n, &names, &lengths, FUNCTORS, WIDTH) < FUNCTORS
 }
 
 // Whether a letter may begin an exponent.
