@@ -197,6 +197,9 @@ impl Waits {
     // rows of the square table of who waits for whom, and places in a row
     pub const SIDE: usize = 32;
 
+    // as many bytes as other languages lend for it
+    pub const BYTES: usize = Waits::SIDE * Waits::SIDE;
+
     pub fn side() -> usize
         ensures { λ r. ⌜ r ≡ wait-side ⌝ }
     {
@@ -216,3 +219,8 @@ impl Changes {
         Changes::ROWS
     }
 }
+
+// A mark for each task, and who waits for whom.
+pub type Marks = [bool; Tasks::LIMIT];
+
+pub type WaitTable = [[bool; Waits::SIDE]; Waits::SIDE];

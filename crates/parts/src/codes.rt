@@ -110,45 +110,48 @@ impl Family {
     pub const TASK_STATE: usize = Code::IS_DORMANT / Family::SIZE;
 }
 
-// The number of each declared type of a data item. 0 is none.
-pub struct DataType;
+// The number of each declared type of a data item.
+pub struct Declared;
 
-impl DataType {
-    pub const TEXT: u8 = 1;
+impl Declared {
+    // no type
+    pub const NONE: u32 = 0;
 
-    pub const INTEGER: u8 = 2;
+    pub const TEXT: u32 = 1;
 
-    pub const BOOLEAN: u8 = 3;
+    pub const INTEGER: u32 = 2;
 
-    pub const DATETIME: u8 = 4;
+    pub const BOOLEAN: u32 = 3;
 
-    pub const DATE: u8 = 5;
+    pub const DATETIME: u32 = 4;
 
-    pub const TIME: u8 = 6;
+    pub const DATE: u32 = 5;
 
-    pub const REAL: u8 = 7;
+    pub const TIME: u32 = 6;
 
-    pub const SETOF_TEXT: u8 = 8;
+    pub const REAL: u32 = 7;
 
-    pub const SETOF_INTEGER: u8 = 9;
+    pub const SETOF_TEXT: u32 = 8;
 
-    pub const SETOF_REAL: u8 = 10;
+    pub const SETOF_INTEGER: u32 = 9;
+
+    pub const SETOF_REAL: u32 = 10;
 
     // All of them, in the order of the definitions.
-    pub fn numbers() -> [u8; 10]
+    pub fn numbers() -> [u32; 10]
         ensures { λ r. ⌜ r ≡ declared-codes ⌝ }
     {
         [
-            DataType::TEXT,
-            DataType::INTEGER,
-            DataType::BOOLEAN,
-            DataType::DATETIME,
-            DataType::DATE,
-            DataType::TIME,
-            DataType::REAL,
-            DataType::SETOF_TEXT,
-            DataType::SETOF_INTEGER,
-            DataType::SETOF_REAL,
+            Declared::TEXT,
+            Declared::INTEGER,
+            Declared::BOOLEAN,
+            Declared::DATETIME,
+            Declared::DATE,
+            Declared::TIME,
+            Declared::REAL,
+            Declared::SETOF_TEXT,
+            Declared::SETOF_INTEGER,
+            Declared::SETOF_REAL,
         ]
     }
 }

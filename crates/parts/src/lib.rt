@@ -4,7 +4,7 @@ mod codes;
 pub mod names;
 
 pub use codes::Code;
-pub use codes::DataType;
+pub use codes::Declared;
 pub use codes::Family;
 use numbers::Num;
 ghost use mathlib.Core.Path.{_≡_};
