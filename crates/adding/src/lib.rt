@@ -2,6 +2,7 @@
 use items::Form;
 use limits::DataItems;
 use limits::Guideline;
+use limits::Refusal;
 use replying::Reply;
 use state::Plan;
 use state::Requested;
@@ -81,12 +82,12 @@ pub fn add(
                         store(texts, state, d, bytes, value_given::value(tags, numbers));
                         return Reply::Done;
                     }
-                    return Reply::Refused(6);
+                    return Reply::Refused(Refusal::LIMIT);
                 }
-                return Reply::Refused(9);
+                return Reply::Refused(Refusal::VALUE);
             }
         }
-        return Reply::Refused(8);
+        return Reply::Refused(Refusal::NO_SUCH);
     }
-    Reply::Refused(7)
+    Reply::Refused(Refusal::UNREADY)
 }

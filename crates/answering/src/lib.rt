@@ -1,4 +1,5 @@
 // Load's answer: a guideline's bytes to its rows, parts and texts, or number and place of its refusal, by all stages.
+use limits::Refusal;
 use reading::Reading;
 use row_tests::Found;
 ghost use Rattle.parts.specs.Part.{table};
@@ -18,7 +19,7 @@ fn typed(rows: &mut [u32], cells: &mut [u32], bytes: &mut [u8], n: usize) -> Ans
         Found::Nowhere => Answer::Loads(n),
         Found::At(place) => {
             stages::blank(rows, cells, bytes);
-            Answer::Refused(5, place)
+            Answer::Refused(Refusal::TYPE, place)
         }
     }
 }
@@ -31,7 +32,7 @@ fn named(rows: &mut [u32], cells: &mut [u32], bytes: &mut [u8], n: usize) -> Ans
         Found::Nowhere => typed(rows, cells, bytes, n),
         Found::At(place) => {
             stages::blank(rows, cells, bytes);
-            Answer::Refused(4, place)
+            Answer::Refused(Refusal::NAME, place)
         }
     }
 }

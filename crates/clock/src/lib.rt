@@ -1,4 +1,5 @@
 // 8.3.3, SetEngineTime.
+use limits::Refusal;
 use replying::Reply;
 use state::Header;
 ghost use Rattle.clock.specs.Time.{SetsTime};
@@ -12,7 +13,7 @@ pub fn set_time(s: &mut [u32], time: u64) -> Reply
             blocks::put_cell(s, Header::TIME, time as u32);
             return Reply::Done;
         }
-        return Reply::Refused(6);
+        return Reply::Refused(Refusal::LIMIT);
     }
-    Reply::Refused(7)
+    Reply::Refused(Refusal::UNREADY)
 }

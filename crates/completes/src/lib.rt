@@ -1,4 +1,5 @@
 // 8.6.4: which tasks are completed.
+use limits::Marks;
 use limits::Tasks;
 use state::Class;
 use state::Plan;
@@ -26,7 +27,7 @@ fn still(s: &[u32], t: usize) -> bool
 }
 
 // 5b, iii to v: a task that is not to change now.
-fn idle(starts: [bool; 32], discards: [bool; 32], initialises: [bool; 32], t: usize) -> bool
+fn idle(starts: Marks, discards: Marks, initialises: Marks, t: usize) -> bool
     ensures { λ r. ⌜ r ≡ idleF starts discards initialises t ⌝ }
 {
     let a = waits::mark(starts, t);
@@ -35,13 +36,7 @@ fn idle(starts: [bool; 32], discards: [bool; 32], initialises: [bool; 32], t: us
     waits::both(!a, waits::both(!b, !c))
 }
 
-fn settled(
-    s: &[u32],
-    starts: [bool; 32],
-    discards: [bool; 32],
-    initialises: [bool; 32],
-    t: usize,
-) -> bool
+fn settled(s: &[u32], starts: Marks, discards: Marks, initialises: Marks, t: usize) -> bool
     ensures { λ r. ⌜ r ≡ settledF (now (s .entry)) starts discards initialises t ⌝ }
 {
     let a = still(s, t);
@@ -49,13 +44,7 @@ fn settled(
 }
 
 // 5: the plans of which a component is not settled.
-pub fn unsettled(
-    s: &[u32],
-    f: &[u32],
-    starts: [bool; 32],
-    discards: [bool; 32],
-    initialises: [bool; 32],
-) -> [bool; 32]
+pub fn unsettled(s: &[u32], f: &[u32], starts: Marks, discards: Marks, initialises: Marks) -> Marks
     ensures { λ r. ⌜ Below (now (f .entry)) (λ C. not (settledF (now (s .entry)) starts discards initialises C)) 32 r ⌝ }
 {
     let mut m = [false; Tasks::LIMIT];
@@ -112,7 +101,7 @@ fn confirmed(s: &[u32], f: &[u32], t: usize) -> bool
 }
 
 // 8.6.4, where `pending` marks the plans of which a component is not settled.
-pub fn complete_one(s: &[u32], f: &[u32], pending: [bool; 32], t: usize) -> bool
+pub fn complete_one(s: &[u32], f: &[u32], pending: Marks, t: usize) -> bool
     requires { ⌜ t < 32 ⌝ }
     ensures { λ r. ⌜ r ≡ completeF (now (s .entry)) (now (f .entry)) pending t ⌝ }
 {

@@ -1,4 +1,5 @@
 // 8.3.4, ConfirmTask.
+use limits::Refusal;
 use limits::Tasks;
 use replying::Reply;
 use state::Plan;
@@ -19,7 +20,7 @@ pub fn confirm(f: &[u32], s: &mut [u32], task: u64) -> Reply
                 return Reply::Done;
             }
         }
-        return Reply::Refused(8);
+        return Reply::Refused(Refusal::NO_SUCH);
     }
-    Reply::Refused(7)
+    Reply::Refused(Refusal::UNREADY)
 }

@@ -1,4 +1,5 @@
 // 8.6.8 and 8.6.3: which plans terminate, and which tasks are discarded.
+use limits::Marks;
 use limits::Tasks;
 use state::Plan;
 use state::Property;
@@ -22,7 +23,7 @@ fn ends(s: &[u32], f: &[u32], t: usize) -> bool
 }
 
 // 8.6.8, 2: the plans that a terminal task ends.
-pub fn ended_plans(s: &[u32], f: &[u32]) -> [bool; 32]
+pub fn ended_plans(s: &[u32], f: &[u32]) -> Marks
     ensures { λ r. ⌜ Below (now (f .entry)) (endsF (now (s .entry)) (now (f .entry))) 32 r ⌝ }
 {
     let mut m = [false; Tasks::LIMIT];
@@ -72,7 +73,7 @@ fn own(s: &[u32], f: &[u32], b: Before, pre: bool, wait: bool, t: usize) -> bool
 }
 
 // 8.6.3, 1: the parent, if any, is in progress and discarded or terminated.
-fn under(s: &[u32], ended: [bool; 32], m: [bool; 32], x: usize, t: usize) -> bool
+fn under(s: &[u32], ended: Marks, m: Marks, x: usize, t: usize) -> bool
     ensures { λ r. ⌜ r ≡ underF (now (s .entry)) ended m x t ⌝ }
 {
     if x == 0 {
@@ -87,11 +88,11 @@ fn under(s: &[u32], ended: [bool; 32], m: [bool; 32], x: usize, t: usize) -> boo
 pub fn discard_one(
     s: &[u32],
     f: &[u32],
-    row: [bool; 32],
+    row: Marks,
     pre: bool,
     wait: bool,
-    ended: [bool; 32],
-    m: [bool; 32],
+    ended: Marks,
+    m: Marks,
     t: usize,
 ) -> bool
     ensures { λ r. ⌜ r ≡ discardF (now (s .entry)) (now (f .entry)) row pre wait ended m t ⌝ }

@@ -17,13 +17,13 @@ const CELLS: usize = List::LIST_LIMIT + 1;
 struct Tag;
 
 impl Tag {
-    const TRUTH: usize = 1;
+    const TRUTH: usize = values::Tag::TRUTH as usize;
 
-    const INTEGER: usize = 2;
+    const INTEGER: usize = values::Tag::INTEGER as usize;
 
-    const REAL: usize = 3;
+    const REAL: usize = values::Tag::REAL as usize;
 
-    const TEXT: usize = 4;
+    const TEXT: usize = values::Tag::TEXT as usize;
 }
 
 // No item from here on is read.

@@ -1,9 +1,10 @@
 // The steps of the expression reader: the next token's terminal and level, and writing the rows of parts.
-// A row is four cells: the kind, the number of operands, the size and the load of a part. What has no room is counted and not written.
+// A row is the kind, the number of operands, the size and the load of a part. What has no room is counted and not written.
 pub mod operators;
 
 use limits::Expressions;
 use parts::Code;
+use parts::Row;
 use terminals::Terminal;
 ghost use mathlib.Core.Path.{_≡_};
 ghost use mathlib.Core.Bool.{true, false};
@@ -84,14 +85,14 @@ pub fn put(cells: &mut [u32], v: usize, k: u8, n: usize, a: usize, l: u32)
     if Expressions::PARTS < n {
         return;
     }
-    if cells.len() / 4 <= v {
+    if cells.len() / Row::CELLS <= v {
         return;
     }
-    let i = v * 4;
+    let i = v * Row::CELLS;
     cells[i] = k as u32;
-    cells[i + 1] = n as u32;
-    cells[i + 2] = (v + 1 - a) as u32;
-    cells[i + 3] = l;
+    cells[i + Row::COUNT] = n as u32;
+    cells[i + Row::SIZE] = (v + 1 - a) as u32;
+    cells[i + Row::LOAD] = l;
 }
 
 // Counts minuses: the first token from `p` on that is none.

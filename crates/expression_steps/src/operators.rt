@@ -22,32 +22,49 @@ pub struct Operand {
     pub depth: usize,
 }
 
-// How tight the operator of terminal `k` holds; 0 for what is none.
+// How tight operators hold. The fourth level is left out.
+struct Levels;
+
+impl Levels {
+    const NONE: u8 = 0;
+
+    const OR: u8 = 1;
+
+    const AND: u8 = 2;
+
+    const COMPARISON: u8 = 3;
+
+    const SUM: u8 = 5;
+
+    const PRODUCT: u8 = 6;
+}
+
+// How tight the operator of terminal `k` holds.
 // Document 01: "loosest to tightest are `or`; `and`; comparison and membership; `#` and `++`; `+ -`; `* /`".
 pub fn level(k: u8) -> u8
     ensures { λ r. ⌜ r ≡ levelOf k ⌝ }
 {
     match k {
-        Terminal::OR => 1,
-        Terminal::OR_UPPER => 1,
-        Terminal::AND => 2,
-        Terminal::AND_UPPER => 2,
-        Terminal::INCLUDE => 3,
-        Terminal::INCLUDES => 3,
-        Terminal::ONEOF => 3,
-        Terminal::EQUALS => 3,
-        Terminal::LESS => 3,
-        Terminal::LESS_EQUAL => 3,
-        Terminal::EQUAL_LESS => 3,
-        Terminal::GREATER => 3,
-        Terminal::GREATER_EQUAL => 3,
-        Terminal::EQUAL_GREATER => 3,
-        Terminal::NOT_EQUAL => 3,
-        Terminal::PLUS => 5,
-        Terminal::MINUS => 5,
-        Terminal::TIMES => 6,
-        Terminal::DIVIDE => 6,
-        _ => 0,
+        Terminal::OR => Levels::OR,
+        Terminal::OR_UPPER => Levels::OR,
+        Terminal::AND => Levels::AND,
+        Terminal::AND_UPPER => Levels::AND,
+        Terminal::INCLUDE => Levels::COMPARISON,
+        Terminal::INCLUDES => Levels::COMPARISON,
+        Terminal::ONEOF => Levels::COMPARISON,
+        Terminal::EQUALS => Levels::COMPARISON,
+        Terminal::LESS => Levels::COMPARISON,
+        Terminal::LESS_EQUAL => Levels::COMPARISON,
+        Terminal::EQUAL_LESS => Levels::COMPARISON,
+        Terminal::GREATER => Levels::COMPARISON,
+        Terminal::GREATER_EQUAL => Levels::COMPARISON,
+        Terminal::EQUAL_GREATER => Levels::COMPARISON,
+        Terminal::NOT_EQUAL => Levels::COMPARISON,
+        Terminal::PLUS => Levels::SUM,
+        Terminal::MINUS => Levels::SUM,
+        Terminal::TIMES => Levels::PRODUCT,
+        Terminal::DIVIDE => Levels::PRODUCT,
+        _ => Levels::NONE,
     }
 }
 
@@ -87,7 +104,7 @@ pub fn level_at(kinds: &[u8], p: usize, assigned: bool) -> u8
         return level(k);
     }
     if k == Terminal::AND {
-        return 0;
+        return Levels::NONE;
     }
     level(k)
 }

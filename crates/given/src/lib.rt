@@ -1,4 +1,5 @@
 // What a caller gives: whether it is within the limits.
+use limits::Guideline;
 use values::Handle;
 ghost use Rattle.paper_calls.specs.Calls.{SmallText};
 ghost use Rattle.parts.specs.Texts.{cells as cellsOf};
@@ -13,7 +14,7 @@ pub fn small_text(b: &[u8], p: usize, n: usize) -> bool
     }
     let mut k: usize = 0;
     while k < n {
-        if 127 < parts::names::at(b, p, k) {
+        if Guideline::LAST_BYTE < parts::names::at(b, p, k) {
             return false;
         }
         k += 1;

@@ -16,8 +16,8 @@ use tables::Layout;
 
 mod tables;
 
-// The cells of the stack: a token leaves at most eight symbols more there.
-const STACK: usize = 8 * TokenList::LIMIT;
+// The cells of the stack: a token leaves at most so many symbols more there.
+const STACK: usize = Layout::FOLLOWING * TokenList::LIMIT;
 
 const BOTTOM: usize = STACK - 1;
 
@@ -28,6 +28,7 @@ const FIRST: usize = SYMBOL as usize;
 
 const PROCESS: u8 = SYMBOL;
 
+// The form has it as its 40th, counted from 0.
 const EXPRESSION: u8 = SYMBOL + 40;
 
 // The symbols from which a sentence may come.
@@ -40,7 +41,7 @@ pub enum Answer {
     Accepted,
     // The first token that no sentence can have there; the number of tokens, where a sentence would need more.
     Refused(usize),
-    // There are over 4,096 tokens; none was looked at.
+    // There are over TokenList::LIMIT tokens; none was looked at.
     Unread,
 }
 
@@ -227,7 +228,7 @@ fn code(start: Start) -> u8
     }
 }
 
-// Reads the tokens as a sentence from the start symbol. A token is a number as the definitions' Tokens has it: one over 100 stands in no sentence.
+// Reads the tokens as a sentence from the start symbol. A token is a number as the definitions' Tokens has it: one over Terminal::STRING stands in no sentence.
 pub fn read(kinds: &[u8], start: Start) -> Answer
     ensures { λ r. ⌜ Verdict start (now (kinds .entry)) r ⌝ }
 {

@@ -6,7 +6,7 @@ ghost use Rattle.grammar.specs.Tables.{table as defined};
 // For each symbol whether it may be empty: 48 bytes.
 // The 210 alternatives, ten bytes each: the first token, how many symbols follow it, those symbols, and blanks.
 // Each symbol's alternatives start a line; their further lines stand to the right.
-const TABLE: [u8; 2197] = *b"\
+const TABLE: [u8; Layout::BYTES] = *b"\
     \x00\x02\x05\x0b\x0c\x0d\x0e\x0f\x10\x11\x13\x14\x1a#+2<>@IJORU\x5c_`adefghoptwx{\x7f\x80\x8c\xa1\xa3\xaf\xc3\xc5\xd1\xd2\
     011000000101111100100110011011011100100101101111\
     \x18\x08H\x81\x19\x18J1\x83\x821\x02\x83\x82      \
@@ -89,10 +89,14 @@ impl Layout {
 
     pub const ALTERNATIVES: usize = Layout::EMPTY + Layout::SYMBOLS;
 
-    // the bytes of one alternative
-    pub const WIDTH: usize = 10;
+    // how many alternatives there are, the most symbols that follow the first token of one, and its bytes: the token, their number, and they
+    pub const COUNT: usize = 210;
 
-    pub const BYTES: usize = 2197;
+    pub const FOLLOWING: usize = 8;
+
+    pub const WIDTH: usize = 2 + Layout::FOLLOWING;
+
+    pub const BYTES: usize = Layout::ALTERNATIVES + Layout::COUNT * Layout::WIDTH;
 }
 
 // All of it, made once for a text and handed on.

@@ -3,6 +3,7 @@ mod row;
 
 use leaves::names::Span;
 use parts::byte;
+pub use row::Flag;
 pub use row::Kind;
 pub use row::Row;
 ghost use mathlib.Core.Path.{_≡_};
@@ -22,15 +23,15 @@ pub fn spelt(text: &[u8], places: &[usize], lengths: &[usize], j: usize) -> Span
     Span { at: 0, n: 0 }
 }
 
-// 1 for yes and 2 for no: they differ in length.
+// Yes or no: they differ in length.
 pub fn answer(text: &[u8], places: &[usize], lengths: &[usize], j: usize) -> u8
     ensures { λ r. ⌜ Answers (now (text .entry)) (now (places .entry)) (now (lengths .entry)) j r ⌝ }
 {
     let s = spelt(text, places, lengths, j);
     if s.n == 3 {
-        return 1;
+        return Flag::YES;
     }
-    2
+    Flag::NO
 }
 
 // The number of a type, by the length of its name and a byte in which names of one length differ.
@@ -41,32 +42,32 @@ fn type_of(text: &[u8], at: usize, n: usize) -> u8
     if n == 4 {
         let b = byte(text, at + 2);
         if b == b'x' {
-            return 1;
+            return Flag::TEXT;
         }
         if b == b't' {
-            return 5;
+            return Flag::DATE;
         }
         if b == b'm' {
-            return 6;
+            return Flag::TIME;
         }
-        return 7;
+        return Flag::REAL;
     }
     if n == 7 {
         if byte(text, at + 2) == b't' {
-            return 2;
+            return Flag::INTEGER;
         }
-        return 3;
+        return Flag::BOOLEAN;
     }
     if n == 8 {
-        return 4;
+        return Flag::DATETIME;
     }
     if n == 10 {
         if byte(text, at + 6) == b't' {
-            return 8;
+            return Flag::SETOF_TEXT;
         }
-        return 10;
+        return Flag::SETOF_REAL;
     }
-    9
+    Flag::SETOF_INTEGER
 }
 
 // The number of the declared type that the token `j` names.

@@ -1,4 +1,5 @@
 // The row table by name: the cells of a row, and its kind, the number of its word's terminal.
+use parts::Declared;
 use terminals::Terminal;
 
 pub struct Row;
@@ -61,4 +62,33 @@ impl Kind {
 
     // an assignment
     pub const EQUALS: usize = Terminal::EQUALS as usize;
+}
+
+// The last cell of a row: yes or no, or the declared type of a data item.
+pub struct Flag;
+
+impl Flag {
+    pub const YES: u8 = 1;
+
+    pub const NO: u8 = 2;
+
+    pub const TEXT: u8 = Declared::TEXT as u8;
+
+    pub const INTEGER: u8 = Declared::INTEGER as u8;
+
+    pub const BOOLEAN: u8 = Declared::BOOLEAN as u8;
+
+    pub const DATETIME: u8 = Declared::DATETIME as u8;
+
+    pub const DATE: u8 = Declared::DATE as u8;
+
+    pub const TIME: u8 = Declared::TIME as u8;
+
+    pub const REAL: u8 = Declared::REAL as u8;
+
+    pub const SETOF_TEXT: u8 = Declared::SETOF_TEXT as u8;
+
+    pub const SETOF_INTEGER: u8 = Declared::SETOF_INTEGER as u8;
+
+    pub const SETOF_REAL: u8 = Declared::SETOF_REAL as u8;
 }

@@ -4,11 +4,14 @@ use guideline_turns::Passed;
 ghost use mathlib.Core.Path.{_≡_};
 ghost use Rattle.guideline_walk.specs.Made.{low as lowOf, Puts};
 
+// No cell holds a number from here on.
+const CELL: usize = 4_294_967_296;
+
 // What fits a cell.
 fn low(x: usize) -> u32
     ensures { λ r. ⌜ r ≡ lowOf x ⌝ }
 {
-    if x < 4_294_967_296 {
+    if x < CELL {
         return x as u32;
     }
     0

@@ -6,6 +6,7 @@ use state::Values;
 use values::Handle;
 use values::List;
 use values::Scalar;
+use values::Tag;
 use values::Value;
 ghost use mathlib.Core.Path.{_≡_};
 ghost use Prim.Native.Nat.{_≤_, _<_};
@@ -41,11 +42,14 @@ fn moved(n: Num) -> u32
     0
 }
 
+// No text stands from here on.
+const PLACES: usize = 1_000_000;
+
 // The handle of a text of `n` bytes at a place.
 fn handle(place: usize, n: usize) -> u32
     ensures { λ r. ⌜ (place < 1000000 → n < 64 → r ≡ handleOf place n) ⌝ }
 {
-    if place < 1000000 {
+    if place < PLACES {
         if n < HANDLE {
             return (place * HANDLE + n) as u32;
         }
@@ -57,11 +61,11 @@ fn tag(x: Scalar) -> u32
     ensures { λ r. ⌜ r ≡ tagC x ⌝ }
 {
     match x {
-        Scalar::Unknown => 0,
-        Scalar::Truth(_) => 1,
-        Scalar::Int(_) => 2,
-        Scalar::Real(_) => 3,
-        Scalar::Text(_) => 4,
+        Scalar::Unknown => Tag::UNKNOWN,
+        Scalar::Truth(_) => Tag::TRUTH,
+        Scalar::Int(_) => Tag::INTEGER,
+        Scalar::Real(_) => Tag::REAL,
+        Scalar::Text(_) => Tag::TEXT,
     }
 }
 

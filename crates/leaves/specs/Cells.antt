@@ -16,7 +16,7 @@ use Rattle.paper_expressions.specs.Laws.Search.{sameb, same-reflects, reflects-
 use Rattle.paper_tokens.specs.Lexical.{part, inner}
 use Rattle.parts.specs.Texts.{cells}
 use Rattle.words.specs.Entries.{Same}
-use Rattle.leaves.specs.Numbers.{three, above, below, signed}
+use Rattle.leaves.specs.Numbers.{three, minus-first, unsigned}
 
 pub cells-more : (b : List ℕ) (i m : ℕ) → 0 < m → cells b i m ≡ getD b i 0 ∷ cells b (i + 1) (m - 1)
 cells-more b i zero h = absurd (not-suc-le-zero h)
@@ -85,12 +85,9 @@ three-more b i m h =
 
 -- ---- a sign, or none
 
-module _ (f : List ℕ → ℕ) (b : List ℕ) (i m : ℕ) where
-  pub signed-none : m ≡ 0 → signed f (cells b i m) ≡ above (f (cells b i 0))
-  signed-none h = rw h
+module _ (b : List ℕ) (i m : ℕ) (h : 0 < m) where
+  pub unsigned-minus : getD b i 0 ≡ 45 → (true ≡ minus-first (cells b i m)) × (cells b (i + 1) (m - 1) ≡ unsigned (cells b i m))
+  unsigned-minus e = (rw (cells-more b i m h, e), rw (cells-more b i m h, e))
 
-  pub signed-minus : 0 < m → getD b i 0 ≡ 45 → signed f (cells b i m) ≡ below (f (cells b (i + 1) (m - 1)))
-  signed-minus h e = rw (cells-more b i m h, e)
-
-  pub signed-plain : 0 < m → ¬ (getD b i 0 ≡ 45) → signed f (cells b i m) ≡ above (f (cells b i m))
-  signed-plain h e = rw (cells-more b i m h, ne-eqb (getD b i 0) 45 e)
+  pub unsigned-plain : ¬ (getD b i 0 ≡ 45) → (false ≡ minus-first (cells b i m)) × (cells b i m ≡ unsigned (cells b i m))
+  unsigned-plain e = (rw (cells-more b i m h, ne-eqb (getD b i 0) 45 e), rw (cells-more b i m h, ne-eqb (getD b i 0) 45 e))

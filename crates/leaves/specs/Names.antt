@@ -5,12 +5,10 @@ use mathlib.Core.Path.{_≡_, refl, sym, ap, _∙_}
 use mathlib.Core.Bool.{Bool, true, false, cond, _&&_}
 use mathlib.Core.Logic.{⊎-elim}
 use mathlib.Core.List.{List, [], _∷_}
-use native.Mathlib.Nat.{not-suc-le-zero}
-use native.Mathlib.Numerals.{add-one}
 use native.Mathlib.Omega.{arith}
 use lib.Dec.{ltb, leb, leb→le}
-use lib.ListN.{length, getD}
-use borrow.Author.Tests.{ltb-true}
+use lib.ListN.{getD}
+use borrow.Author.Tests.{ltb-true, lt-ltb, le-ltb}
 use Rattle.paper_expressions.specs.Laws.Tests.{two, and-l, and-r}
 use Rattle.paper_expressions.specs.Bytes.{bytes}
 use Rattle.paper_expressions.specs.Operators.{Op, arithmetic, divide, compare, and, or, includes, oneof, if, negate, isknown, not, count, sum, extreme, nth, is-in, no-such, Name, _means_, functors}
@@ -18,11 +16,9 @@ use Rattle.paper_expressions.specs.Laws.Functors.{meantF, functorF}
 use Rattle.paper_expressions.specs.Laws.Search.{sameb}
 use Rattle.parts.specs.Codes.{code}
 use Rattle.parts.specs.Part.{OpLoad}
-use Rattle.parts.specs.Texts.{cells, textAt}
-use Rattle.paper_tokens.specs.Lexical.{part}
+use Rattle.parts.specs.Texts.{textAt}
 use Rattle.terminals.specs.Every.{at-below}
-use Rattle.words.specs.Entries.{Same}
-use Rattle.leaves.specs.Cells.{same-parts}
+use Rattle.leaves.specs.Places.{entry, Rows, place-from}
 
 unfoldable pub name-bytes : List ℕ
 name-bytes =
@@ -35,7 +31,7 @@ unfoldable pub name-codes : List ℕ
 name-codes = 70 ∷ 80 ∷ 90 ∷ 100 ∷ 110 ∷ 120 ∷ 130 ∷ 131 ∷ 140 ∷ 150 ∷ 151 ∷ 152 ∷ 153 ∷ []
 
 abbrev pub name-at : ℕ → List ℕ
-name-at i = cells name-bytes (i * 16) (getD name-lengths i 0)
+name-at i = entry name-bytes name-lengths 16 i
 
 -- the number of what w means, by the n rows from i on; 250 where there is none
 abbrev pub code-from : List ℕ → ℕ → ℕ → ℕ
@@ -109,25 +105,28 @@ known-load b nth x h e = e
 known-load b (is-in s) x h e = e
 known-load b (no-such n) x h e = absurd (h refl)
 
--- ---- row by row
+-- ---- by the place of the name among the rows
 
-pub found : (w : List ℕ) (i n : ℕ) → 0 < n → sameb (name-at i) w ≡ true → code-from w i n ≡ getD name-codes i 0
-found w i zero h e = absurd (not-suc-le-zero h)
-found w i (suc n) h e = rw e
+pub code-placed : (w : List ℕ) (i n : ℕ)
+    → code-from w i n ≡ cond (ltb (place-from name-at w i n) (i + n)) (getD name-codes (place-from name-at w i n) 0) 250
+code-placed w i zero = rw (le-ltb i (i + 0) (omega arith))
+code-placed w i (suc n) =
+    let e : suc i + n ≡ i + suc n = omega arith in
+    ⊎-elim
+    (λ (p : sameb (name-at i) w ≡ true). rw (p, lt-ltb i (i + suc n) (omega arith)))
+    (λ (p : sameb (name-at i) w ≡ false). rw p (rw e at (code-placed w (suc i) n)))
+    (two (sameb (name-at i) w))
 
-pub passed : (w : List ℕ) (i n m : ℕ) → n ≡ m + 1 → sameb (name-at i) w ≡ false → code-from w i n ≡ code-from w (i + 1) m
-passed w i n m h e = rw (h, add-one m, add-one i, e)
+-- where the name stands there, and where it does not
+pub code-at : (w : List ℕ) (i : ℕ) → i ≡ place-from name-at w 0 13 → i < 13 → getD name-codes i 0 ≡ code-from w 0 13
+code-at w i e h = sym (code-placed w 0 13 ∙ rw (sym e, lt-ltb i 13 h))
 
-pub none-left : (w : List ℕ) (i n : ℕ) → n ≤ 0 → code-from w i n ≡ 250
-none-left w i zero h = refl
-none-left w i (suc n) h = absurd (not-suc-le-zero h)
+pub code-none : (w : List ℕ) (i : ℕ) → i ≡ place-from name-at w 0 13 → 13 ≤ i → 250 ≡ code-from w 0 13
+code-none w i e h = sym (code-placed w 0 13 ∙ rw (sym e, le-ltb i 13 h))
 
--- each row lies within the names
-pub rows-fit : (i : ℕ) → i < 13 → i * 16 + getD name-lengths i 0 ≤ length name-bytes
+pub rows-fit : Rows name-bytes name-lengths 13 16
 unfolding name-bytes name-lengths
-rows-fit i h = leb→le (i * 16 + getD name-lengths i 0) 208 (at-below (λ k. leb (k * 16 + getD name-lengths k 0) 208) 13 tt i h)
-
--- what stands in a text is the name of a row
-pub same-name : (t : List ℕ) (at n i : ℕ) (r : Bool) → at + n ≤ length t → i < 13 → Same (part t at n) (part name-bytes (i * 16) (getD name-lengths i 0)) r
-    → r ≡ sameb (name-at i) (cells t at n)
-same-name t at n i r h l s = same-parts t name-bytes at n (i * 16) (getD name-lengths i 0) r h (rows-fit i l) s
+rows-fit = record {
+  sized = leb→le 13 13 tt;
+  inside = λ i h. leb→le (i * 16 + getD name-lengths i 0) 208 (at-below (λ k. leb (k * 16 + getD name-lengths k 0) 208) 13 tt i h);
+}

@@ -2,7 +2,7 @@
 -- Law: within the limits they are the numbers of 9.1. By induction on the bytes.
 use Prim.Native.Nat.{ℕ, zero, suc, _+_, _*_, _-_, _≤_}
 use mathlib.Core.Path.{_≡_, refl, sym, ap, subst, _∙_}
-use mathlib.Core.Bool.{true, false, cond}
+use mathlib.Core.Bool.{Bool, true, false, cond}
 use mathlib.Core.Logic.{⊎-elim}
 use mathlib.Core.List.{List, [], _∷_}
 use native.Mathlib.Omega.{arith}
@@ -46,9 +46,26 @@ above n = real-limit + n
 abbrev pub below : ℕ → ℕ
 below n = real-limit - n
 
+-- the sign, and what stands behind it
+abbrev pub minus-first : List ℕ → Bool
+minus-first [] = false
+minus-first (b ∷ w) = eqb b 45
+
+abbrev pub unsigned : List ℕ → List ℕ
+unsigned [] = []
+unsigned (b ∷ w) = cond (eqb b 45) w (b ∷ w)
+
+abbrev pub load-of : Bool → ℕ → ℕ
+load-of true n = below n
+load-of false n = above n
+
 abbrev pub signed : (List ℕ → ℕ) → List ℕ → ℕ
 signed f [] = above (f [])
 signed f (b ∷ w) = cond (eqb b 45) (below (f w)) (above (f (b ∷ w)))
+
+pub signed-is : (f : List ℕ → ℕ) (w : List ℕ) → load-of (minus-first w) (f (unsigned w)) ≡ signed f w
+signed-is f [] = refl
+signed-is f (b ∷ w) = ⊎-elim (λ (e : eqb b 45 ≡ true). rw e) (λ (e : eqb b 45 ≡ false). rw e) (two (eqb b 45))
 
 -- ---- as they are: nothing cut off
 

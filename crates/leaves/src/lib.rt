@@ -1,6 +1,6 @@
 // What one token says: the part that an atom, a number or a string is, and what a functor name means.
+pub mod literals;
 pub mod names;
-pub mod numbers;
 
 use parts::Code;
 use terminals::Terminal;
@@ -45,14 +45,14 @@ pub fn leaf(text: &[u8], k: u8, at: usize, n: usize) -> Word
     ensures { λ r. ⌜ SaysLeaf (now (text .entry)) k at n r ⌝ }
 {
     if k == Terminal::INTEGER {
-        let x = numbers::integer(text, at, n);
+        let x = literals::integer(text, at, n);
         return Word {
             kind: Code::INTEGER as u8,
             load: x,
         };
     }
     if k == Terminal::FLOAT {
-        let x = numbers::float(text, at, n);
+        let x = literals::float(text, at, n);
         return Word {
             kind: Code::FLOAT as u8,
             load: x,

@@ -9,6 +9,7 @@ ghost use Prim.Native.Nat.{_+_, _*_, _-_, _≤_, _<_};
 ghost use lib.ListN.{length, getD};
 ghost use Rattle.paper_tokens.specs.Lexical.{inner};
 ghost use Rattle.parts.specs.Texts.{cells};
+ghost use Rattle.leaves.specs.Places.{entry, Rows, place-from};
 ghost use Rattle.leaves.specs.Names.{name-bytes, name-lengths, name-codes, code-from};
 
 // How many names of functors section 11 has, and how many bytes of the table each takes.
@@ -16,12 +17,14 @@ const FUNCTORS: usize = 13;
 
 const WIDTH: usize = 16;
 
-const NAMES: [u8; 208] =
+const BYTES: usize = FUNCTORS * WIDTH;
+
+const NAMES: [u8; BYTES] =
     *b"if              -               isknown         not             count           sum             max             min             nth             is_dormant      is_in_progress  is_discarded    is_completed    ";
 
-const LENGTHS: [usize; 13] = [2, 1, 7, 3, 5, 3, 3, 3, 3, 10, 14, 12, 12];
+const LENGTHS: [usize; FUNCTORS] = [2, 1, 7, 3, 5, 3, 3, 3, 3, 10, 14, 12, 12];
 // The numbers of the parts that they are.
-const CODES: [u8; 13] = [
+const CODES: [u8; FUNCTORS] = [
     Code::IF as u8,
     Code::NEGATE as u8,
     Code::ISKNOWN as u8,
@@ -87,13 +90,13 @@ pub fn handle(at: usize, n: usize) -> u32
 }
 
 // The tables are made once for a name, and handed on.
-fn names() -> [u8; 208]
+fn names() -> [u8; BYTES]
     ensures { λ r. ⌜ r ≡ name-bytes ⌝ }
 {
     NAMES
 }
 
-fn lengths() -> [usize; 13]
+fn lengths() -> [usize; FUNCTORS]
     ensures { λ r. ⌜ r ≡ name-lengths ⌝ }
 {
     LENGTHS
@@ -106,6 +109,30 @@ fn code(i: usize) -> u8
     CODES[i]
 }
 
+// The place of the first of `count` names that the `n` bytes of a text at a place are, or the count. A name has `width` bytes of the table, and
+// its length.
+pub fn place_in(
+    text: &[u8],
+    at: usize,
+    n: usize,
+    names: &[u8],
+    lengths: &[usize],
+    count: usize,
+    width: usize,
+) -> usize
+    requires { ⌜ (at + n ≤ length (now text)) × Rows (now names) (now lengths) count width ⌝ }
+    ensures { λ r. ⌜ r ≡ place-from (entry (now (names .entry)) (now (lengths .entry)) width) (cells (now (text .entry)) at n) 0 count ⌝ }
+{
+    let mut i = 0;
+    while i < count {
+        if stands(text, at, n, names, i * width, lengths[i]) {
+            return i;
+        }
+        i += 1;
+    }
+    i
+}
+
 // The number of the operator that a functor name means, or that of a functor that section 11 doesn't have.
 pub fn functor(text: &[u8], at: usize, n: usize) -> u8
     requires { ⌜ at + n ≤ length (now text) ⌝ }
@@ -113,12 +140,9 @@ pub fn functor(text: &[u8], at: usize, n: usize) -> u8
 {
     let names = names();
     let lengths = lengths();
-    let mut i = 0;
-    while i < FUNCTORS {
-        if stands(text, at, n, &names, i * WIDTH, lengths[i]) {
-            return code(i);
-        }
-        i += 1;
+    let i = place_in(text, at, n, &names, &lengths, FUNCTORS, WIDTH);
+    if i < FUNCTORS {
+        return code(i);
     }
     Code::NO_SUCH as u8
 }

@@ -5,7 +5,9 @@ ghost use lib.ListN.{length, getD};
 ghost use Rattle.matches.specs.Walk.{Settled, Marks};
 ghost use Rattle.lexer.specs.Answer.{atomKind, wordKind, Worded, Named, AtomIs, Tells, Answer};
 use matches::Best;
+use matches::Rule;
 use terminals::Terminal;
+use words::Known;
 
 // A token. Its kind is its terminal, or one of the two kinds that are skipped.
 pub struct Token {
@@ -15,9 +17,9 @@ pub struct Token {
 }
 
 impl Token {
-    pub const WHITE_SPACE: u8 = 101;
+    pub const WHITE_SPACE: u8 = Terminal::COUNT;
 
-    pub const COMMENT: u8 = 102;
+    pub const COMMENT: u8 = Terminal::COUNT + 1;
 }
 
 // The terminal of an atom that is the r-th of the known strings, or none of them.
@@ -25,8 +27,8 @@ fn atom_kind(r: usize) -> u8
     ensures { λ k. ⌜ k ≡ atomKind r ⌝ }
 {
     match r {
-        95..=96 => Terminal::YES_OR_NO,
-        97..=106 => Terminal::DATA_TYPE,
+        Known::YES..=Known::NO => Terminal::YES_OR_NO,
+        Known::FIRST_TYPE..=Known::LAST_TYPE => Terminal::DATA_TYPE,
         _ => Terminal::OTHER_ATOM,
     }
 }
@@ -42,7 +44,7 @@ fn narrow(k: usize) -> u8
 fn word_kind(r: usize) -> u8
     ensures { λ k. ⌜ k ≡ wordKind r ⌝ }
 {
-    if r < 95 {
+    if r < Known::YES {
         return narrow(r);
     }
     atom_kind(r)
@@ -83,12 +85,12 @@ fn kind(text: &[u8], at: usize, best: Best) -> u8
     let len = best.len;
     let rule = best.rule;
     match rule {
-        0 => word(text, at, len),
-        1 => atom(text, at, len),
-        2 => Terminal::INTEGER,
-        3 => Terminal::FLOAT,
-        4 => Terminal::STRING,
-        5 => Token::WHITE_SPACE,
+        Rule::SYMBOL => word(text, at, len),
+        Rule::ATOM => atom(text, at, len),
+        Rule::INTEGER => Terminal::INTEGER,
+        Rule::FLOAT => Terminal::FLOAT,
+        Rule::STRING => Terminal::STRING,
+        Rule::WHITE_SPACE => Token::WHITE_SPACE,
         _ => Token::COMMENT,
     }
 }

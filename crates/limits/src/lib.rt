@@ -1,5 +1,9 @@
 // Every limit of reading and of the engine, named once, on the type that it limits; and tied once, by the function beside it, to the definitions.
 // The limits of values stand on the types of values: integers and reals on numbers::Num, texts on values::Handle, lists on values::List.
+// The numbers of the refusals stand in refusal.rt.
+mod refusal;
+
+pub use refusal::Refusal;
 ghost use mathlib.Core.Path.{_≡_};
 ghost use Prim.Native.Nat.{_*_};
 ghost use Rattle.limits.specs.Limits.{row-cells, cycle-limit, time-limit, wait-side, change-rows};
@@ -11,6 +15,9 @@ pub struct Guideline;
 impl Guideline {
     // bytes of a guideline text
     pub const LIMIT: usize = 16_384;
+
+    // the last byte that a text may have: no definition names it, so the contracts that use it tie it
+    pub const LAST_BYTE: u8 = 127;
 
     pub fn bytes() -> usize
         ensures { λ r. ⌜ r ≡ guideline-limit ⌝ }
@@ -97,7 +104,7 @@ impl Expressions {
     }
 
     // the cells of their table, four a part
-    pub const CELLS: usize = 4_096;
+    pub const CELLS: usize = Expressions::PARTS * 4;
 
     pub fn cells() -> usize
         ensures { λ r. ⌜ r ≡ part-limit * 4 ⌝ }
@@ -190,6 +197,9 @@ impl Waits {
     // rows of the square table of who waits for whom, and places in a row
     pub const SIDE: usize = 32;
 
+    // as many bytes as other languages lend for it
+    pub const BYTES: usize = Waits::SIDE * Waits::SIDE;
+
     pub fn side() -> usize
         ensures { λ r. ⌜ r ≡ wait-side ⌝ }
     {
@@ -209,3 +219,8 @@ impl Changes {
         Changes::ROWS
     }
 }
+
+// A mark for each task, and who waits for whom.
+pub type Marks = [bool; Tasks::LIMIT];
+
+pub type WaitTable = [[bool; Waits::SIDE]; Waits::SIDE];

@@ -3,6 +3,7 @@ use grammar::Answer;
 use grammar::Start;
 use limits::Expression;
 use limits::Expressions;
+use limits::Refusal;
 use token_tests::Found;
 use values::List;
 ghost use mathlib.Core.Path.{_≡_};
@@ -31,14 +32,14 @@ pub fn parse(line: &[u8], kinds: &[u8], places: &[usize], lengths: &[usize]) -> 
     match grammar::read(kinds, Start::Expression) {
         Answer::Accepted => {}
         Answer::Refused(_) => {
-            return Verdict::Refused(3);
+            return Verdict::Refused(Refusal::GRAMMAR);
         }
         Answer::Unread => {
-            return Verdict::Refused(3);
+            return Verdict::Refused(Refusal::GRAMMAR);
         }
     }
     match token_tests::left_out(line, kinds, places, lengths) {
-        Found::At(_) => Verdict::Refused(10),
+        Found::At(_) => Verdict::Refused(Refusal::LEFT_OUT),
         Found::Nowhere => Verdict::Fine,
     }
 }
@@ -57,19 +58,19 @@ pub fn fit(
 {
     match token_tests::past_limit(line, kinds, places, lengths) {
         Found::At(_) => {
-            return Limited::Refused(6);
+            return Limited::Refused(Refusal::LIMIT);
         }
         Found::Nowhere => {}
     }
     let m = expression_reader::read(line, kinds, places, lengths, 0, false, cells, 0);
     if Expression::DEPTH < m.depth {
-        return Limited::Refused(6);
+        return Limited::Refused(Refusal::LIMIT);
     }
     if List::LIST_LIMIT < m.longest {
-        return Limited::Refused(6);
+        return Limited::Refused(Refusal::LIMIT);
     }
     if Expressions::PARTS < m.used {
-        return Limited::Refused(6);
+        return Limited::Refused(Refusal::LIMIT);
     }
     Limited::Within(m.used)
 }

@@ -1,5 +1,6 @@
 // The type and the value of a line that passed the tests, written as its answer.
 use limits::Expression;
+use limits::Refusal;
 ghost use lib.ListN.{length};
 ghost use Rattle.parts.specs.Part.{table};
 ghost use Rattle.line_answer.specs.Steps.{Blank, Worth, Comes};
@@ -34,7 +35,7 @@ pub fn value(cells: &[u32], bytes: &[u8], end: usize, out: &mut [u8]) -> usize
     let types = &bytes[0..0];
     let letter = typer::type_of(cells, bytes, names, types, 0, end, Expression::DEPTH);
     if letter == 0 {
-        return written::refused(5, out, 0);
+        return written::refused(Refusal::TYPE, out, 0);
     }
     worth(cells, bytes, end, letter, out)
 }

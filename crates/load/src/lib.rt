@@ -1,6 +1,9 @@
 // Load: a guideline's bytes to the tables that every other call is given, or number and place of its refusal.
 use answering::Answer;
 use blank::clear;
+use limits::Refusal;
+use limits::WaitTable;
+use limits::Waits;
 use opening::State;
 use opening::open;
 use parts::number;
@@ -43,12 +46,12 @@ fn is_short(plan: &[u32], bytes: &[u8], state: &[u32]) -> bool
 }
 
 // Nothing is loaded: what load works out is blank.
-fn empty(plan: &mut [u32], waits: &mut [[bool; 32]; 32], state: &mut [u32])
+fn empty(plan: &mut [u32], waits: &mut WaitTable, state: &mut [u32])
     ensures { λ _. ⌜ Emptied (now (plan .entry)) (now (state .entry)) (now (plan .exit)) (now (waits .exit)) (now (state .exit)) ⌝ }
 {
     clear(plan);
     clear(state);
-    *waits = [[false; 32]; 32];
+    *waits = [[false; Waits::SIDE]; Waits::SIDE];
 }
 
 // What load works out of the first `n` rows.
@@ -57,7 +60,7 @@ fn prepare(
     n: usize,
     bytes: &[u8],
     plan: &mut [u32],
-    waits: &mut [[bool; 32]; 32],
+    waits: &mut WaitTable,
     state: &mut [u32],
 )
     ensures { λ _. ⌜ Prepared (now (rows .entry)) n (now (bytes .entry)) (now (plan .entry)) (now (state .entry)) (now (plan .exit)) (now (waits .exit)) (now (state .exit)) ⌝ }
@@ -74,7 +77,7 @@ fn refusal(text: &[u8]) -> Reply
     let mut cells = [0u32; 1];
     let mut bytes = [0u8; 1];
     match answering::judge(text, &mut rows, &mut cells, &mut bytes) {
-        Answer::Loads(_) => Reply::Refused(6, text.len()),
+        Answer::Loads(_) => Reply::Refused(Refusal::LIMIT, text.len()),
         Answer::Refused(number, place) => Reply::Refused(number, place),
     }
 }
@@ -85,7 +88,7 @@ pub fn load(
     rows: &mut [u32],
     cells: &mut [u32],
     plan: &mut [u32],
-    waits: &mut [[bool; 32]; 32],
+    waits: &mut WaitTable,
     bytes: &mut [u8],
     state: &mut [u32],
 ) -> Reply

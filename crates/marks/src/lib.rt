@@ -1,4 +1,5 @@
 // Marks of tasks that their children raise.
+use limits::Marks;
 use limits::Tasks;
 ghost use mathlib.Core.Path.{_≡_};
 ghost use mathlib.Core.Bool.{_&&_, _||_};
@@ -19,7 +20,7 @@ pub fn parent(x: usize) -> usize
 }
 
 // The mark of the task `p`, raised if `v` holds and `p` is the parent.
-pub fn raised(m: [bool; 32], p: usize, x: usize, v: bool) -> bool
+pub fn raised(m: Marks, p: usize, x: usize, v: bool) -> bool
     ensures { λ r. ⌜ r ≡ (marked m p || (v && eqb x (p + 1))) ⌝ }
 {
     let own = waits::both(v, is_next(x, p));

@@ -8,35 +8,46 @@ ghost use Rattle.matches.specs.Kinds.{fineOf};
 ghost use Rattle.matches.specs.Machine.{accepts as acceptsOf, nextOf, accOf, Takes};
 ghost use Rattle.matches.specs.Walk.{betterOf, beginOf, Settled, Closes, Marks};
 
+mod numbers;
 pub mod table;
 
-const RULES: usize = 7;
+use limits::Guideline;
+use numbers::ByteKind;
+pub use numbers::Rule;
+use numbers::State;
+
+// The bytes of what begins a comment, and of what ends it.
+const FENCE: usize = 3;
+
+const FIRST_HIGH: u8 = Guideline::LAST_BYTE + 1;
+
+const LAST_HIGH: u8 = 255;
 
 // The kind of a byte: the thirteen kinds of the definitions, with the bytes of symbols told apart from the others.
 pub fn kind(b: u8) -> usize
     ensures { λ r. ⌜ r ≡ fineOf b ⌝ }
 {
     match b {
-        b'd'..=b'e' | b'D'..=b'E' => 2,
-        b'a'..=b'c' | b'f'..=b'z' | b'A'..=b'C' | b'F'..=b'Z' | b'_' => 1,
-        b'0'..=b'9' => 3,
-        b'-' => 4,
-        b'.' => 5,
-        b'\'' => 6,
-        b'\\' => 7,
-        9..=10 | 13 | 32 => 8,
-        b'/' => 9,
-        b'*' => 10,
-        128..=255 => 11,
-        b'"' => 12,
-        b':' => 13,
-        b'+' => 14,
-        b'<' => 15,
-        b'=' => 16,
-        b'>' => 17,
-        b'!' => 18,
-        b'('..=b')' | b'#' | b',' | b';' | b'[' | b']' => 19,
-        _ => 0,
+        b'd'..=b'e' | b'D'..=b'E' => ByteKind::POWER,
+        b'a'..=b'c' | b'f'..=b'z' | b'A'..=b'C' | b'F'..=b'Z' | b'_' => ByteKind::LETTER,
+        b'0'..=b'9' => ByteKind::DIGIT,
+        b'-' => ByteKind::MINUS,
+        b'.' => ByteKind::POINT,
+        b'\'' => ByteKind::QUOTE,
+        b'\\' => ByteKind::BACKSLASH,
+        b'\t'..=b'\n' | b'\r' | b' ' => ByteKind::BLANK,
+        b'/' => ByteKind::SLASH,
+        b'*' => ByteKind::STAR,
+        FIRST_HIGH..=LAST_HIGH => ByteKind::HIGH,
+        b'"' => ByteKind::DOUBLE_QUOTE,
+        b':' => ByteKind::COLON,
+        b'+' => ByteKind::PLUS,
+        b'<' => ByteKind::LESS,
+        b'=' => ByteKind::EQUAL,
+        b'>' => ByteKind::GREATER,
+        b'!' => ByteKind::BANG,
+        b'('..=b')' | b'#' | b',' | b';' | b'[' | b']' => ByteKind::MARK,
+        _ => ByteKind::OTHER,
     }
 }
 
@@ -47,7 +58,7 @@ pub struct Best {
 }
 
 // A longer match wins; on a tie the one that is there.
-fn better(accepts: &[u8; 35], best: Best, q: usize, r: usize, n: usize) -> Best
+fn better(accepts: &[u8; State::COUNT], best: Best, q: usize, r: usize, n: usize) -> Best
     requires { ⌜ (now accepts ≡ acceptsOf) × (q < 35) ⌝ }
     ensures { λ x. ⌜ x ≡ betterOf best q r n ⌝ }
 {
@@ -61,13 +72,23 @@ fn better(accepts: &[u8; 35], best: Best, q: usize, r: usize, n: usize) -> Best
 }
 
 // Where the rules start. Where no comment can end any more, the rule of comments is dead from the start.
-fn begin(shut: bool) -> [usize; 7]
+fn begin(shut: bool) -> [usize; Rule::COUNT]
     ensures { λ r. ⌜ r ≡ beginOf shut ⌝ }
 {
+    let mut states = [
+        State::SYMBOL,
+        State::ATOM,
+        State::INTEGER,
+        State::FLOAT,
+        State::STRING,
+        State::WHITE_SPACE,
+        State::COMMENT,
+    ];
     if shut {
-        return [27, 1, 2, 3, 4, 5, 0];
+        states[Rule::COMMENT] = State::DEAD;
+        return states;
     }
-    [27, 1, 2, 3, 4, 5, 6]
+    states
 }
 
 // The end of a comment, **/, stands at p.
@@ -78,7 +99,7 @@ fn closes(text: &[u8], p: usize) -> bool
     if n <= p {
         return false;
     }
-    if n - p < 3 {
+    if n - p < FENCE {
         return false;
     }
     if text[p] != b'*' {
@@ -115,7 +136,7 @@ fn hopeless(at: usize, last: usize) -> bool
     if last <= at {
         return true;
     }
-    if last - at <= 3 {
+    if last - at <= FENCE {
         return true;
     }
     false
@@ -137,8 +158,8 @@ fn walk(text: &[u8], at: usize, shut: bool) -> Best
         let mut alive = 0usize;
         let mut r = 0usize;
         'rules: loop {
-            if r == RULES {
-                if alive == 0 {
+            if r == Rule::COUNT {
+                if alive == State::DEAD {
                     break 'walk;
                 }
                 break 'rules;

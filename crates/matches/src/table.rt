@@ -2,10 +2,13 @@
 ghost use mathlib.Core.Path.{_≡_};
 ghost use Prim.Native.Nat.{_<_};
 ghost use Rattle.matches.specs.Machine.{delta as deltaOf, accepts as acceptsOf, nextOf, accOf};
+use crate::numbers::ByteKind;
+use crate::numbers::State;
 
-const KINDS: usize = 20;
+// The byte that state 0 is written as.
+const ZERO: usize = b'0' as usize;
 
-const DELTA: [u8; 700] = *b"\
+const DELTA: [u8; State::ENTRIES] = *b"\
 00000000000000000000\
 07700080000000000000\
 0009:000000000000000\
@@ -43,7 +46,7 @@ HHHHHHHHHAJHHHHHHHHH\
 0000000000000000L000";
 
 // Which states have a whole match behind them.
-const ACCEPTS: [u8; 35] = *b"00000001010000010101100100001111110";
+const ACCEPTS: [u8; State::COUNT] = *b"00000001010000010101100100001111110";
 
 fn wide(b: u8) -> usize
     ensures { λ r. ⌜ r ≡ b ⌝ }
@@ -52,28 +55,28 @@ fn wide(b: u8) -> usize
 }
 
 // Both tables are made once for a walk, and handed on.
-pub fn delta() -> [u8; 700]
+pub fn delta() -> [u8; State::ENTRIES]
     ensures { λ r. ⌜ r ≡ deltaOf ⌝ }
 {
     DELTA
 }
 
-pub fn accepts() -> [u8; 35]
+pub fn accepts() -> [u8; State::COUNT]
     ensures { λ r. ⌜ r ≡ acceptsOf ⌝ }
 {
     ACCEPTS
 }
 
 // The state after a byte of a kind; 0 where the rule cannot take it.
-pub fn next(delta: &[u8; 700], q: usize, k: usize) -> usize
+pub fn next(delta: &[u8; State::ENTRIES], q: usize, k: usize) -> usize
     requires { ⌜ (now delta ≡ deltaOf) × (q < 35) × (k < 20) ⌝ }
     ensures { λ r. ⌜ r ≡ nextOf q k ⌝ }
 {
-    wide(delta[q * KINDS + k]) - 48
+    wide(delta[q * ByteKind::COUNT + k]) - ZERO
 }
 
 // The rule that stands at q has a whole match behind it.
-pub fn accepting(accepts: &[u8; 35], q: usize) -> bool
+pub fn accepting(accepts: &[u8; State::COUNT], q: usize) -> bool
     requires { ⌜ (now accepts ≡ acceptsOf) × (q < 35) ⌝ }
     ensures { λ r. ⌜ r ≡ accOf q ⌝ }
 {

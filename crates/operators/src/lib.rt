@@ -7,6 +7,7 @@ pub use operator::Comparison;
 pub use operator::Extreme;
 pub use truth::and;
 pub use truth::if_else;
+pub use truth::is_true;
 pub use truth::isknown;
 pub use truth::not;
 pub use truth::or;

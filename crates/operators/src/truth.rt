@@ -9,7 +9,7 @@ ghost use Rattle.operators.specs.Twins.{trueC, falseC};
 use values::Scalar;
 use values::Value;
 
-fn is_true(s: Scalar) -> bool
+pub fn is_true(s: Scalar) -> bool
     ensures { λ r. ⌜ r ≡ trueC s ⌝ }
 {
     match s {

@@ -1,6 +1,7 @@
 -- The number of each kind of part. 0 is no part. Definitions only.
 -- Numbers that are not taken are for what later editions read.
 use Prim.Native.Nat.{ℕ}
+use mathlib.Core.List.{List, [], _∷_}
 use Rattle.paper_expressions.specs.Types.{Declared, a-text, an-integer, a-boolean, a-datetime, a-date, a-time, a-real, a-setof-text, a-setof-integer, a-setof-real}
 use Rattle.paper_expressions.specs.Values.{dormant, in-progress, discarded, completed}
 use Rattle.paper_expressions.specs.Operators.{plus, minus, times, is>, is<, is>=, is<=, is=, is!=, max, min}
@@ -60,3 +61,8 @@ declared-code a-real = 7
 declared-code a-setof-text = 8
 declared-code a-setof-integer = 9
 declared-code a-setof-real = 10
+
+abbrev pub declared-codes : List ℕ
+declared-codes =
+    declared-code a-text ∷ declared-code an-integer ∷ declared-code a-boolean ∷ declared-code a-datetime ∷ declared-code a-date ∷
+    declared-code a-time ∷ declared-code a-real ∷ declared-code a-setof-text ∷ declared-code a-setof-integer ∷ declared-code a-setof-real ∷ []

@@ -4,11 +4,28 @@ mod codes;
 pub mod names;
 
 pub use codes::Code;
+pub use codes::Declared;
+pub use codes::Family;
 use numbers::Num;
 ghost use mathlib.Core.Path.{_≡_};
 ghost use Prim.Native.Nat.{_+_, _*_, _-_, _<_};
 ghost use lib.ListN.{getD};
 ghost use Rattle.parts.specs.Texts.{literal as literalOf};
+
+// A row of the table by name: the cells of a part.
+pub struct Row;
+
+impl Row {
+    pub const CELLS: usize = 4;
+
+    pub const CODE: usize = 0;
+
+    pub const COUNT: usize = 1;
+
+    pub const SIZE: usize = 2;
+
+    pub const LOAD: usize = 3;
+}
 
 // A text's handle is so many times its place in the text bytes, and its length.
 pub const HANDLE: usize = 64;
@@ -40,43 +57,43 @@ pub fn byte(col: &[u8], i: usize) -> u8
     0
 }
 
-// The cell `k` of the row `p`, four cells a row.
+// The cell `k` of the row `p`.
 fn cell(cells: &[u32], p: usize, k: usize) -> u32
     requires { ⌜ k < 4 ⌝ }
     ensures { λ r. ⌜ r ≡ getD (now (cells .entry)) (p * 4 + k) 0 ⌝ }
 {
-    if cells.len() / 4 < p {
+    if cells.len() / Row::CELLS < p {
         return 0;
     }
-    word(cells, p * 4 + k)
+    word(cells, p * Row::CELLS + k)
 }
 
 // What the part `p` is, by its number.
 pub fn code(cells: &[u32], p: usize) -> usize
     ensures { λ r. ⌜ r ≡ getD (now (cells .entry)) (p * 4) 0 ⌝ }
 {
-    cell(cells, p, 0) as usize
+    cell(cells, p, Row::CODE) as usize
 }
 
 // How many operands it has.
 pub fn count(cells: &[u32], p: usize) -> usize
     ensures { λ r. ⌜ r ≡ getD (now (cells .entry)) (p * 4 + 1) 0 ⌝ }
 {
-    cell(cells, p, 1) as usize
+    cell(cells, p, Row::COUNT) as usize
 }
 
 // How many parts its whole expression has.
 pub fn size(cells: &[u32], p: usize) -> usize
     ensures { λ r. ⌜ r ≡ getD (now (cells .entry)) (p * 4 + 2) 0 ⌝ }
 {
-    cell(cells, p, 2) as usize
+    cell(cells, p, Row::SIZE) as usize
 }
 
 // What it loads: the handle of a text, or a number that stands for a literal.
 pub fn load(cells: &[u32], p: usize) -> u32
     ensures { λ r. ⌜ r ≡ getD (now (cells .entry)) (p * 4 + 3) 0 ⌝ }
 {
-    cell(cells, p, 3)
+    cell(cells, p, Row::LOAD)
 }
 
 // Where the operand before the one that ends at `q` ends.

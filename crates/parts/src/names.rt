@@ -10,13 +10,16 @@ ghost use Rattle.paper_expressions.specs.Laws.Search.{alikeb};
 ghost use Rattle.parts.specs.Texts.{cells};
 ghost use Rattle.parts.specs.Items.{Found};
 
+// How far a small letter stands behind its capital.
+const CASE: u8 = b'a' - b'A';
+
 // A to Z as a to z.
 pub fn lower(a: u8) -> u8
     ensures { λ r. ⌜ r ≡ fold a ⌝ }
 {
-    if 65 <= a {
-        if a <= 90 {
-            return a + 32;
+    if b'A' <= a {
+        if a <= b'Z' {
+            return a + CASE;
         }
     }
     a

@@ -8,6 +8,7 @@ use blank::clear;
 use columns::columns;
 use limits::DataItems;
 use limits::Tasks;
+use limits::WaitTable;
 use name_tests::lists::gather;
 use order::order;
 use row_tests::cells::ROWS;
@@ -15,7 +16,7 @@ use waiting::waiting;
 ghost use Rattle.plan.specs.Filled.{Fills};
 
 // From the first `n` rows and the text bytes: the plan `f`, and the table `w` of who waits for whom.
-pub fn fill(rows: &[u32], n: usize, bytes: &[u8], f: &mut [u32], w: &mut [[bool; 32]; 32])
+pub fn fill(rows: &[u32], n: usize, bytes: &[u8], f: &mut [u32], w: &mut WaitTable)
     ensures { λ _. ⌜ Fills (now (rows .entry)) n (now (bytes .entry)) (now (f .entry)) (now (f .exit)) (now (w .exit)) ⌝ }
 {
     clear(f);

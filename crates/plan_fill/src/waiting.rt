@@ -1,6 +1,7 @@
 // Who waits for whom: the row of a task marks the tasks that its schedule constraints name.
 use guideline_rows::Kind;
 use limits::Tasks;
+use limits::WaitTable;
 use plan_cells::found::child;
 use plan_cells::found::find;
 use row_tests::cells::handle;
@@ -8,7 +9,7 @@ use row_tests::cells::kind;
 ghost use Rattle.plan_fill.specs.Waiting.{Sets, Waits, AllWaits};
 
 // The task `t` waits for the task `a`.
-fn set(w: [[bool; 32]; 32], t: usize, a: usize) -> [[bool; 32]; 32]
+fn set(w: WaitTable, t: usize, a: usize) -> WaitTable
     ensures { λ r. ⌜ Sets w t a r ⌝ }
 {
     if Tasks::LIMIT <= t {
@@ -32,8 +33,8 @@ fn wait(
     m: usize,
     k: usize,
     c: usize,
-    w: [[bool; 32]; 32],
-) -> [[bool; 32]; 32]
+    w: WaitTable,
+) -> WaitTable
     ensures { λ r. ⌜ Waits (now (rows .entry)) (now (bytes .entry)) (now (tasks .entry)) m k c w r ⌝ }
 {
     if kind(rows, k) != Kind::SCHEDULE_CONSTRAINT {
@@ -43,7 +44,7 @@ fn wait(
 }
 
 // What the first `n` rows tell of `m` tasks.
-pub fn waiting(rows: &[u32], n: usize, bytes: &[u8], tasks: &[u32], m: usize) -> [[bool; 32]; 32]
+pub fn waiting(rows: &[u32], n: usize, bytes: &[u8], tasks: &[u32], m: usize) -> WaitTable
     ensures { λ r. ⌜ AllWaits (now (rows .entry)) n (now (bytes .entry)) (now (tasks .entry)) m r ⌝ }
 {
     let mut w = [[false; Tasks::LIMIT]; Tasks::LIMIT];

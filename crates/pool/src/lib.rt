@@ -2,6 +2,7 @@
 // guideline's own text, and afterwards holds the same expression over the text bytes.
 use parts::Code;
 use parts::HANDLE;
+use parts::Row;
 use parts::byte;
 ghost use mathlib.Core.Path.{_≡_};
 ghost use lib.ListN.{length};
@@ -58,7 +59,7 @@ pub fn copy(text: &[u8], place: usize, n: usize, bytes: &mut [u8], o: usize)
 fn move_text(text: &[u8], cells: &mut [u32], i: usize, bytes: &mut [u8], o: usize) -> usize
     ensures { λ r. ⌜ Moves (now (text .entry)) (now (cells .entry)) (now (cells .exit)) (now (bytes .entry)) (now (bytes .exit)) i o r ⌝ }
 {
-    if cells.len() / 4 <= i {
+    if cells.len() / Row::CELLS <= i {
         return o;
     }
     if !has_text(parts::code(cells, i)) {
@@ -69,7 +70,7 @@ fn move_text(text: &[u8], cells: &mut [u32], i: usize, bytes: &mut [u8], o: usiz
     if !room(bytes.len(), o, n) {
         return NOWHERE;
     }
-    cells[i * 4 + 3] = (o * HANDLE + n) as u32;
+    cells[i * Row::CELLS + Row::LOAD] = (o * HANDLE + n) as u32;
     copy(text, x / HANDLE, n, bytes, o);
     o + n
 }

@@ -1,4 +1,5 @@
 // The whole of reading: a guideline's bytes to its tables, or number and place of its refusal by 1, 2, 3, 10 or 6.
+use limits::Refusal;
 use limits::TokenList;
 use stages::Verdict;
 use tokens::Read;
@@ -37,7 +38,7 @@ fn lexed(text: &[u8], rows: &mut [u32], cells: &mut [u32], bytes: &mut [u8]) -> 
     let mut places = [0usize; TokenList::LIMIT];
     let mut lengths = [0usize; TokenList::LIMIT];
     match tokens::into_blank(text, &mut kinds, &mut places, &mut lengths) {
-        Read::Short => Reading::Refused(6, text.len()),
+        Read::Short => Reading::Refused(Refusal::LIMIT, text.len()),
         Read::Refused(n, p) => Reading::Refused(n, p),
         Read::Tokens(n) => structured(text, &kinds[..n], &places, &lengths, rows, cells, bytes),
     }

@@ -6,6 +6,12 @@ ghost use Prim.Native.Nat.{_+_, _<_};
 ghost use lib.ListN.{getD, length};
 ghost use Rattle.resolution.specs.Resolution.{promotesOf, setOf, meetsOf, allMeet, firstOf, resolveOf};
 ghost use Rattle.resolution.specs.Allowed.{listOf};
+use parts::Family;
+
+// The letters of an allowed type, and where the result stands among them.
+const ENTRY: usize = 4;
+
+const RESULT: usize = 3;
 
 // What setof_anything can be promoted to.
 fn is_set(u: u8) -> bool
@@ -62,12 +68,12 @@ fn entry_met(list: &[u8], i: usize, x: u8, y: u8, z: u8, promoted: bool) -> bool
 fn first(list: &[u8], x: u8, y: u8, z: u8, promoted: bool) -> u8
     ensures { λ r. ⌜ r ≡ firstOf promoted (x ∷ y ∷ z ∷ []) (now (list .entry)) ⌝ }
 {
-    let n = list.len() / 4;
+    let n = list.len() / ENTRY;
     let mut k = 0;
     while k < n {
-        let i = k * 4;
+        let i = k * ENTRY;
         if entry_met(list, i, x, y, z, promoted) {
-            return list[i + 3];
+            return list[i + RESULT];
         }
         k += 1;
     }
@@ -85,26 +91,26 @@ fn resolve(list: &[u8], x: u8, y: u8, z: u8) -> u8
     first(list, x, y, z, true)
 }
 
-// Section 11: the allowed types of each operator, by the tens of its number.
+// Section 11: the allowed types of each operator, by the family of its number.
 pub fn apply(tens: usize, x: u8, y: u8, z: u8) -> u8
     ensures { λ r. ⌜ r ≡ resolveOf (x ∷ y ∷ z ∷ []) (listOf tens) ⌝ }
 {
     match tens {
-        1 => resolve(b"II IRR R", x, y, z),
-        2 => resolve(b"RR R", x, y, z),
-        3 => resolve(b"RR BTT Brr Btt B", x, y, z),
-        4 => resolve(b"BB B", x, y, z),
-        5 => resolve(b"tT BrR B", x, y, z),
-        6 => resolve(b"Tt BRr B", x, y, z),
-        7 => resolve(b"BBBBBIIIBRRRBTTTBiiiBrrrBttt", x, y, z),
-        8 => resolve(b"I  IR  R", x, y, z),
-        9 => resolve(b"T  BR  Bt  Br  BB  B", x, y, z),
-        10 => resolve(b"B  B", x, y, z),
-        11 => resolve(b"r  It  I", x, y, z),
-        12 => resolve(b"i  Ir  R", x, y, z),
-        13 => resolve(b"i  Ir  Rt  T", x, y, z),
-        14 => resolve(b"Ii IIr RIt T", x, y, z),
-        15 => resolve(b"T  B", x, y, z),
+        Family::ARITHMETIC => resolve(b"II IRR R", x, y, z),
+        Family::DIVIDE => resolve(b"RR R", x, y, z),
+        Family::COMPARISON => resolve(b"RR BTT Brr Btt B", x, y, z),
+        Family::LOGIC => resolve(b"BB B", x, y, z),
+        Family::INCLUDES => resolve(b"tT BrR B", x, y, z),
+        Family::ONEOF => resolve(b"Tt BRr B", x, y, z),
+        Family::IF => resolve(b"BBBBBIIIBRRRBTTTBiiiBrrrBttt", x, y, z),
+        Family::NEGATE => resolve(b"I  IR  R", x, y, z),
+        Family::ISKNOWN => resolve(b"T  BR  Bt  Br  BB  B", x, y, z),
+        Family::NOT => resolve(b"B  B", x, y, z),
+        Family::COUNT => resolve(b"r  It  I", x, y, z),
+        Family::SUM => resolve(b"i  Ir  R", x, y, z),
+        Family::EXTREME => resolve(b"i  Ir  Rt  T", x, y, z),
+        Family::NTH => resolve(b"Ii IIr RIt T", x, y, z),
+        Family::TASK_STATE => resolve(b"T  B", x, y, z),
         _ => 0,
     }
 }

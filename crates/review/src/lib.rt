@@ -1,5 +1,7 @@
 // 8.3.2, 2: the review of all tasks against one table, and the rows of the Changes table that it leaves.
 use changes::Row;
+use limits::Marks;
+use limits::WaitTable;
 use state::Plan;
 ghost use mathlib.Core.Path.{_≡_};
 ghost use Prim.Native.Nat.{_≤_};
@@ -22,10 +24,10 @@ fn each(
     s: &[u32],
     f: &[u32],
     clock: u32,
-    initialises: [bool; 32],
-    starts: [bool; 32],
-    discards: [bool; 32],
-    completes: [bool; 32],
+    initialises: Marks,
+    starts: Marks,
+    discards: Marks,
+    completes: Marks,
     out: &mut [u32],
 ) -> usize
     ensures { λ r. ⌜ EachRows (now (s .entry)) (now (f .entry)) clock initialises starts discards completes (now (out .entry)) (now (out .exit)) r ⌝ }
@@ -58,10 +60,10 @@ fn each(
 pub fn review(
     s: &[u32],
     f: &[u32],
-    w: [[bool; 32]; 32],
-    pre: [bool; 32],
-    wait: [bool; 32],
-    ends: [bool; 32],
+    w: WaitTable,
+    pre: Marks,
+    wait: Marks,
+    ends: Marks,
     clock: u32,
     out: &mut [u32],
 ) -> usize

@@ -5,7 +5,6 @@ use mathlib.Core.Bool.{Bool, true, false}
 use mathlib.Core.List.{List}
 use mathlib.Core.Option.{Option, none, some}
 use lib.ListN.{length, getD}
-use borrow.Author.Tests.{ne-eqb}
 use Rattle.paper_expressions.specs.Values.{Value}
 use Rattle.paper_expressions.specs.Laws.Search.{no-clash}
 use Rattle.paper_rows.specs.Table.{Kind, task, data-item, candidate, argument, parameter, source, warning-condition, Component, _№_}
@@ -125,19 +124,6 @@ abbrev pub Written : List ℕ → Row → List ℕ → List ℕ → Type 0
 Written b r u q = 34 ≤ length u → 768 ≤ length q → Form u q (published-row b r)
 
 -- ---- what the code finds out
-
-pub state-last : (n : ℕ) → ¬ (n ≡ 1) → ¬ (n ≡ 2) → ¬ (n ≡ 3) → 4 ≡ state-number (state-of n)
-state-last n a b c = sym (rw (ne-eqb n 1 a, ne-eqb n 2 b, ne-eqb n 3 c))
-
-module _ (n : ℕ) (a : ¬ (n ≡ 1)) (b : ¬ (n ≡ 2)) (c : ¬ (n ≡ 3)) (d : ¬ (n ≡ 4)) (e : ¬ (n ≡ 5)) (f : ¬ (n ≡ 6)) (g : ¬ (n ≡ 7)) (h : ¬ (n ≡ 8)) (i : ¬ (n ≡ 9)) where
-  pub class-last : 10 ≡ class-number (class-of n)
-  class-last = sym (rw (ne-eqb n 1 a, ne-eqb n 2 b, ne-eqb n 3 c, ne-eqb n 4 d, ne-eqb n 5 e, ne-eqb n 6 f, ne-eqb n 7 g, ne-eqb n 8 h, ne-eqb n 9 i))
-
-  pub type-last : 10 ≡ type-number (type-of n)
-  type-last = sym (rw (ne-eqb n 1 a, ne-eqb n 2 b, ne-eqb n 3 c, ne-eqb n 4 d, ne-eqb n 5 e, ne-eqb n 6 f, ne-eqb n 7 g, ne-eqb n 8 h, ne-eqb n 9 i))
-
-pub kind-last : (n : ℕ) → ¬ (n ≡ 0) → ¬ (n ≡ 1) → ¬ (n ≡ 2) → ¬ (n ≡ 3) → ¬ (n ≡ 4) → ¬ (n ≡ 5) → 6 ≡ kind-number (kind-of n)
-kind-last n a b c d e f = sym (rw (ne-eqb n 0 a, ne-eqb n 1 b, ne-eqb n 2 c, ne-eqb n 3 d, ne-eqb n 4 e, ne-eqb n 5 f))
 
 -- an answer with these numbers, where they are those of the case t
 pub numbered : (s t : Shown) {n c x y : ℕ} {a : Answer} → s ≡ t → (a .number ≡ n) × (a .shown ≡ c) × (a .first ≡ x) × (a .second ≡ y)

@@ -1,7 +1,9 @@
 // Reading a row of the Properties table, by kind, number and property.
 use limits::DataItems;
+use limits::Refusal;
 use limits::Sources;
 use limits::Tasks;
+use limits::WaitTable;
 use row_shown::Row;
 use row_shown::Shown;
 use state::Plan;
@@ -15,13 +17,13 @@ ghost use Rattle.row_read.specs.Read.{RowOf, ReadsRow};
 
 pub struct Kind {}
 
-// The kinds that have rows, by their rank in section 10.
+// The kinds that have rows, as a call names them.
 impl Kind {
-    pub const TASK: u64 = 0;
+    pub const TASK: u64 = row_shown::Kind::TASK as u64;
 
-    pub const DATA_ITEM: u64 = 1;
+    pub const DATA_ITEM: u64 = row_shown::Kind::DATA_ITEM as u64;
 
-    pub const SOURCE: u64 = 5;
+    pub const SOURCE: u64 = row_shown::Kind::SOURCE as u64;
 }
 
 pub struct Properties {}
@@ -32,7 +34,7 @@ impl Properties {
 }
 
 // Of the task `n`.
-fn of_task(f: &[u32], w: [[bool; 32]; 32], s: &[u32], n: u64, p: u64) -> Row
+fn of_task(f: &[u32], w: WaitTable, s: &[u32], n: u64, p: u64) -> Row
     ensures { λ r. ⌜ OfKind task (now (f .entry)) w (now (s .entry)) n p r ⌝ }
 {
     if blocks::cell(f, Plan::TASKS) as u64 <= n {
@@ -45,7 +47,7 @@ fn of_task(f: &[u32], w: [[bool; 32]; 32], s: &[u32], n: u64, p: u64) -> Row
 }
 
 // Of the data item `n`.
-fn of_item(f: &[u32], w: [[bool; 32]; 32], s: &[u32], n: u64, p: u64) -> Row
+fn of_item(f: &[u32], w: WaitTable, s: &[u32], n: u64, p: u64) -> Row
     ensures { λ r. ⌜ OfKind data-item (now (f .entry)) w (now (s .entry)) n p r ⌝ }
 {
     if blocks::cell(f, Plan::ITEMS) as u64 <= n {
@@ -76,7 +78,7 @@ fn sources(f: &[u32]) -> u64
 }
 
 // Of the source `n`.
-fn of_source(f: &[u32], w: [[bool; 32]; 32], s: &[u32], n: u64, p: u64) -> Row
+fn of_source(f: &[u32], w: WaitTable, s: &[u32], n: u64, p: u64) -> Row
     ensures { λ r. ⌜ OfKind source (now (f .entry)) w (now (s .entry)) n p r ⌝ }
 {
     if sources(f) <= n {
@@ -89,7 +91,7 @@ fn of_source(f: &[u32], w: [[bool; 32]; 32], s: &[u32], n: u64, p: u64) -> Row
 }
 
 // Of the component `n` of a kind: no other kind has rows in the first edition.
-fn of_kind(f: &[u32], w: [[bool; 32]; 32], s: &[u32], kind: u64, n: u64, p: u64) -> Row
+fn of_kind(f: &[u32], w: WaitTable, s: &[u32], kind: u64, n: u64, p: u64) -> Row
     ensures { λ r. ⌜ RowOf kind n p (now (f .entry)) w (now (s .entry)) r ⌝ }
 {
     if kind == Kind::TASK {
@@ -112,7 +114,7 @@ fn readable(s: &[u32]) -> bool
 }
 
 // Reads a row: refused with 7 where nothing is loaded.
-pub fn read(f: &[u32], w: [[bool; 32]; 32], s: &[u32], kind: u64, number: u64, property: u64) -> Row
+pub fn read(f: &[u32], w: WaitTable, s: &[u32], kind: u64, number: u64, property: u64) -> Row
     ensures { λ r. ⌜ ReadsRow kind number property (now (f .entry)) w (now (s .entry)) r ⌝ }
 {
     if readable(s) {
@@ -121,5 +123,5 @@ pub fn read(f: &[u32], w: [[bool; 32]; 32], s: &[u32], kind: u64, number: u64, p
         }
         return row_shown::plain(Shown::NoRow);
     }
-    row_shown::plain(Shown::Refused(7))
+    row_shown::plain(Shown::Refused(Refusal::UNREADY))
 }

@@ -66,6 +66,8 @@ impl Kind {
     pub const TASK: u8 = 0;
 
     pub const DATA_ITEM: u8 = 1;
+
+    pub const SOURCE: u8 = 5;
 }
 
 pub struct Class {}

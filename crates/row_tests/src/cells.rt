@@ -50,26 +50,26 @@ pub fn place(rows: &[u32], i: usize) -> usize
 pub fn first_part(rows: &[u32], i: usize) -> usize
     ensures { λ r. ⌜ r ≡ cellOf (now (rows .entry)) i 4 ⌝ }
 {
-    cell(rows, i, 4)
+    cell(rows, i, Row::FIRST)
 }
 
 // The place of its expression's first byte.
 pub fn begin(rows: &[u32], i: usize) -> usize
     ensures { λ r. ⌜ r ≡ cellOf (now (rows .entry)) i 5 ⌝ }
 {
-    cell(rows, i, 5)
+    cell(rows, i, Row::START)
 }
 
 // The part behind the last of its expression; 0 if it has none.
 pub fn end(rows: &[u32], i: usize) -> usize
     ensures { λ r. ⌜ r ≡ cellOf (now (rows .entry)) i 6 ⌝ }
 {
-    cell(rows, i, 6)
+    cell(rows, i, Row::END)
 }
 
 // The number of a data item's declared type.
 pub fn declared(rows: &[u32], i: usize) -> usize
     ensures { λ r. ⌜ r ≡ cellOf (now (rows .entry)) i 7 ⌝ }
 {
-    cell(rows, i, 7)
+    cell(rows, i, Row::FLAG)
 }

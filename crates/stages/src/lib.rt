@@ -12,6 +12,7 @@ use grammar::Answer;
 use grammar::Start;
 use leaves::cell;
 use limiting::over_limits;
+use limits::Refusal;
 use token_tests::Found;
 
 // The number of rows, or number and place of the refusal.
@@ -67,7 +68,7 @@ fn within_limits(
     match over_limits(text, kinds, places, lengths, w, short) {
         Found::At(p) => {
             blank(rows, cells, bytes);
-            Verdict::Refused(6, p)
+            Verdict::Refused(Refusal::LIMIT, p)
         }
         Found::Nowhere => Verdict::Fine(w.rows),
     }
@@ -87,13 +88,13 @@ pub fn judge(
 {
     match first_bad(text, kinds, places) {
         Found::At(p) => {
-            return Verdict::Refused(3, p);
+            return Verdict::Refused(Refusal::GRAMMAR, p);
         }
         Found::Nowhere => {}
     }
     match token_tests::left_out(text, kinds, places, lengths) {
         Found::At(p) => {
-            return Verdict::Refused(10, p);
+            return Verdict::Refused(Refusal::LEFT_OUT, p);
         }
         Found::Nowhere => {}
     }

@@ -1,5 +1,7 @@
 // The rows of a task, as the plan and the state tell them.
+use limits::Marks;
 use limits::Tasks;
+use limits::WaitTable;
 use row_shown::Class;
 use row_shown::Kind;
 use row_shown::Rank;
@@ -77,7 +79,7 @@ fn parent(p: u32) -> Row
 }
 
 // Whether one is marked.
-fn any(row: [bool; 32]) -> bool
+fn any(row: Marks) -> bool
     ensures { λ r. ⌜ r ≡ anyF (marked row) 32 ⌝ }
 {
     let mut k: usize = 0;
@@ -90,7 +92,7 @@ fn any(row: [bool; 32]) -> bool
 }
 
 // The row of the property with the number `p` of the task `t`.
-pub fn task_row(f: &[u32], w: [[bool; 32]; 32], s: &[u32], t: usize, p: u64) -> Row
+pub fn task_row(f: &[u32], w: WaitTable, s: &[u32], t: usize, p: u64) -> Row
     requires { ⌜ t < 32 ⌝ }
     ensures { λ r. ⌜ TaskRow (now (f .entry)) w (now (s .entry)) t p r ⌝ }
 {

@@ -23,9 +23,8 @@ use Rattle.paper_tokens.specs.Terminals.{OneOf, name, Terminal, a-reserved-word
 use Rattle.paper_tokens.specs.Laws.TerminalLaws.{one-terminal, reserved-below}
 use Rattle.paper_guideline.specs.LeftOut.{left-out-words, left-out-functors, LeftOut, left-out-word, left-out-functor, left-out-exponent, further-on}
 use Rattle.parts.specs.Texts.{cells}
-use Rattle.words.specs.Entries.{Same}
 use Rattle.terminals.specs.Every.{at-below}
-use Rattle.leaves.specs.Cells.{same-parts}
+use Rattle.leaves.specs.Places.{entry, Rows, place-from}
 use Rattle.leaves.specs.Leaf.{atom-range}
 use Rattle.leaves.specs.Source.{Source, Here, Stand, at-end, at-token}
 use Rattle.token_tests.specs.Exponent.{has-exponent, plain-none, none-plain}
@@ -53,7 +52,7 @@ unfoldable pub name-lengths : List ℕ
 name-lengths = 16 ∷ 14 ∷ 14 ∷ 5 ∷ 4 ∷ 9 ∷ 3 ∷ 3 ∷ 2 ∷ 3 ∷ 3 ∷ 3 ∷ 4 ∷ 4 ∷ 4 ∷ 6 ∷ []
 
 abbrev pub name-at : ℕ → List ℕ
-name-at i = cells name-bytes (i * 16) (getD name-lengths i 0)
+name-at i = entry name-bytes name-lengths 16 i
 
 -- w is the name in one of the n rows from i on
 abbrev pub named-from : List ℕ → ℕ → ℕ → Bool
@@ -91,28 +90,23 @@ among-reflects w (s ∷ l) = go (sameb (bytes s) w) (among w (map bytes l)) (sam
 named-reflects : (w : List ℕ) → Reflects (OneOf w left-out-functors) (named-from w 0 16)
 named-reflects w = subst (Reflects (OneOf w left-out-functors)) (ap (among w) same-rows ∙ by-rows w 16 0) (among-reflects w left-out-functors)
 
--- ---- row by row
+-- ---- by the place of the name among the rows
 
-pub found : (w : List ℕ) (i n : ℕ) → 0 < n → sameb (name-at i) w ≡ true → named-from w i n ≡ true
-found w i zero h e = absurd (not-suc-le-zero h)
-found w i (suc n) h e = rw e
+pub named-placed : (w : List ℕ) (i n : ℕ) → named-from w i n ≡ ltb (place-from name-at w i n) (i + n)
+named-placed w i zero = sym (le-ltb i (i + 0) (omega arith))
+named-placed w i (suc n) =
+    let e : suc i + n ≡ i + suc n = omega arith in
+    ⊎-elim
+    (λ (p : sameb (name-at i) w ≡ true). rw (p, lt-ltb i (i + suc n) (omega arith)))
+    (λ (p : sameb (name-at i) w ≡ false). rw p (rw e at (named-placed w (suc i) n)))
+    (two (sameb (name-at i) w))
 
-pub passed : (w : List ℕ) (i n m : ℕ) → n ≡ m + 1 → sameb (name-at i) w ≡ false → named-from w i n ≡ named-from w (i + 1) m
-passed w i n m h e = rw (h, add-one m, add-one i, e)
-
-pub none-left : (w : List ℕ) (i n : ℕ) → n ≤ 0 → named-from w i n ≡ false
-none-left w i zero h = refl
-none-left w i (suc n) h = absurd (not-suc-le-zero h)
-
--- each row lies within the names
-pub rows-fit : (i : ℕ) → i < 16 → i * 16 + getD name-lengths i 0 ≤ length name-bytes
+pub rows-fit : Rows name-bytes name-lengths 16 16
 unfolding name-bytes name-lengths
-rows-fit i h = leb→le (i * 16 + getD name-lengths i 0) 256 (at-below (λ k. leb (k * 16 + getD name-lengths k 0) 256) 16 tt i h)
-
--- what stands in a text is the name of a row
-pub same-name : (t : List ℕ) (at n i : ℕ) (r : Bool) → at + n ≤ length t → i < 16 → Same (part t at n) (part name-bytes (i * 16) (getD name-lengths i 0)) r
-    → r ≡ sameb (name-at i) (cells t at n)
-same-name t at n i r h l s = same-parts t name-bytes at n (i * 16) (getD name-lengths i 0) r h (rows-fit i l) s
+rows-fit = record {
+  sized = leb→le 16 16 tt;
+  inside = λ i h. leb→le (i * 16 + getD name-lengths i 0) 256 (at-below (λ k. leb (k * 16 + getD name-lengths k 0) 256) 16 tt i h);
+}
 
 -- ---- one token
 

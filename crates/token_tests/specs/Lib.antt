@@ -3,3 +3,4 @@ pub mod Walk
 pub mod Exponent
 pub mod LeftOutTest
 pub mod LimitTest
+pub mod Tests

@@ -22,10 +22,9 @@ use Rattle.paper_tokens.specs.Terminals.{name, Terminal, a-reserved-word, yes-n
 use Rattle.paper_tokens.specs.Laws.TerminalLaws.{one-terminal, reserved-below}
 use Rattle.paper_guideline.specs.Refusals.{TokenBreach, long-name, long-text, large-integer, large-real, long-fraction}
 use Rattle.parts.specs.Texts.{cells}
-use Rattle.leaves.specs.Cells.{cells-more}
 use Rattle.leaves.specs.Leaf.{atom-range}
 use Rattle.leaves.specs.Numbers
-use Numbers.{most, grown, digits, fixed, all-digits, all-fixed, digits-are, fixed-is, whole-is, whole-plain, thousandths-is, thousandths-plain, size-of-negative}
+use Numbers.{most, grown, unsigned, digits, fixed, all-digits, all-fixed, digits-are, fixed-is, whole-is, whole-plain, thousandths-is, thousandths-plain, size-of-negative}
 use Rattle.leaves.specs.Source.{Source, Here}
 use Rattle.token_tests.specs.declared.sizes.Limit.{Limit}
 use Rattle.token_tests.specs.declared.sizes.Limit.the-variants.{Within, Text, Integer, Real, Decimals}
@@ -33,10 +32,6 @@ use Rattle.token_tests.specs.Reply.{OverLimit}
 use Rattle.token_tests.specs.Walk.{or-right, of-token, of-bytes, Decides}
 
 -- ---- the test
-
-abbrev pub unsigned : List ℕ → List ℕ
-unsigned [] = []
-unsigned (b ∷ w) = cond (eqb b 45) w (b ∷ w)
 
 abbrev pub pick : Bool → Limit → Limit → Limit
 pick true x y = x
@@ -98,12 +93,6 @@ exceeds-is k w = by (eqb k ‘integer’) (eqb k ‘float’) (ltb k reserved-co
 -- the token i of the columns
 abbrev pub past-limit-at : Source → ℕ → Bool
 past-limit-at c i = of-token c i (limit-test (getD (c .kinds) i 0))
-
-pub unsigned-minus : (b : List ℕ) (i m : ℕ) → 0 < m → getD b i 0 ≡ 45 → unsigned (cells b i m) ≡ cells b (i + 1) (m - 1)
-unsigned-minus b i m h e = rw (cells-more b i m h, e)
-
-pub unsigned-plain : (b : List ℕ) (i m : ℕ) → 0 < m → ¬ (getD b i 0 ≡ 45) → unsigned (cells b i m) ≡ cells b i m
-unsigned-plain b i m h e = rw (cells-more b i m h, ne-eqb (getD b i 0) 45 e)
 
 -- ---- the numbers, cut off or not, are past their limits alike
 

@@ -1,8 +1,8 @@
 // Whether one token names something that the first edition leaves out: a word, a functor or an exponent.
 use leaves::names::inside;
+use leaves::names::place_in;
 use parts::byte;
 use terminals::Terminal;
-use words::stands;
 ghost use mathlib.Core.Path.{_≡_};
 ghost use Prim.Native.Nat.{_+_, _≤_, _<_};
 ghost use lib.ListN.{length};
@@ -12,11 +12,17 @@ ghost use Rattle.paper_grammar.specs.Laws.Ll.{isIn};
 ghost use Rattle.paper_guideline.specs.LeftOut.{left-out-words};
 ghost use Rattle.token_tests.specs.LeftOutTest.{name-bytes, name-lengths, named-from, left-out-test};
 
-// The functors that are left out, 16 bytes each.
-const NAMES: [u8; 256] =
+// How many functors are left out, and how many bytes of the table each takes.
+const FUNCTORS: usize = 16;
+
+const WIDTH: usize = 16;
+
+const BYTES: usize = FUNCTORS * WIDTH;
+
+const NAMES: [u8; BYTES] =
     *b"in_progress_timediscarded_time  completed_time  union           diff            intersect       abs             exp             ln              sin             cos             tan             asin            acos            atan            random          ";
 
-const LENGTHS: [usize; 16] = [16, 14, 14, 5, 4, 9, 3, 3, 2, 3, 3, 3, 4, 4, 4, 6];
+const LENGTHS: [usize; FUNCTORS] = [16, 14, 14, 5, 4, 9, 3, 3, 2, 3, 3, 3, 4, 4, 4, 6];
 
 // Whether a terminal is a reserved word or symbol that is left out.
 pub fn is_word(k: u8) -> bool
@@ -37,13 +43,13 @@ pub fn is_word(k: u8) -> bool
 }
 
 // Both tables are made once for a name, and handed on.
-fn names() -> [u8; 256]
+fn names() -> [u8; BYTES]
     ensures { λ r. ⌜ r ≡ name-bytes ⌝ }
 {
     NAMES
 }
 
-fn lengths() -> [usize; 16]
+fn lengths() -> [usize; FUNCTORS]
     ensures { λ r. ⌜ r ≡ name-lengths ⌝ }
 {
     LENGTHS
@@ -56,14 +62,7 @@ fn functor(text: &[u8], at: usize, n: usize) -> bool
 {
     let names = names();
     let lengths = lengths();
-    let mut i = 0;
-    while i < 16 {
-        if stands(text, at, n, &names, i * 16, lengths[i]) {
-            return true;
-        }
-        i += 1;
-    }
-    false
+    place_in(text, at, n, &names, &lengths, FUNCTORS, WIDTH) < FUNCTORS
 }
 
 // Whether a letter may begin an exponent.

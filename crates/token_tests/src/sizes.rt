@@ -1,8 +1,8 @@
 // Whether one token is past a limit: the bytes of a name or a text, the size of a number, its digits behind the point.
-use leaves::names::Span;
+use leaves::literals::digits;
+use leaves::literals::fixed;
+use leaves::literals::unsigned;
 use leaves::names::inside;
-use leaves::numbers::digits;
-use leaves::numbers::fixed;
 use limits::Literal;
 use numbers::Num;
 use parts::byte;
@@ -13,7 +13,7 @@ ghost use Prim.Native.Nat.{_+_, _≤_, _<_};
 ghost use lib.ListN.{length};
 ghost use Rattle.paper_tokens.specs.Literals.{behind-point};
 ghost use Rattle.parts.specs.Texts.{cells};
-ghost use Rattle.token_tests.specs.LimitTest.{unsigned as unsignedOf, integer-limit-of, float-limit, text-limit-of, limit-of, limit-test};
+ghost use Rattle.token_tests.specs.LimitTest.{integer-limit-of, float-limit, text-limit-of, limit-of, limit-test};
 
 // The limit that a token is past.
 pub enum Limit {
@@ -27,23 +27,6 @@ pub enum Limit {
 const INTEGER_LIMIT: u32 = Num::INTEGER_LIMIT as u32;
 
 const REAL_LIMIT: u32 = Num::REAL_LIMIT as u32;
-
-// A number without its sign.
-fn unsigned(text: &[u8], at: usize, n: usize) -> Span
-    requires { ⌜ at + n ≤ length (now text) ⌝ }
-    ensures { λ r. ⌜ (cells (now (text .entry)) (r .at) (r .n) ≡ unsignedOf (cells (now (text .entry)) at n)) × (r .at + r .n ≤ length (now (text .entry))) ⌝ }
-{
-    if n == 0 {
-        return Span { at: at, n: 0 };
-    }
-    if byte(text, at) == b'-' {
-        return Span {
-            at: at + 1,
-            n: n - 1,
-        };
-    }
-    Span { at: at, n: n }
-}
 
 // How many bytes stand behind the point.
 fn behind(text: &[u8], at: usize, n: usize) -> usize

@@ -9,6 +9,7 @@ use lexer::Lexed;
 use lexer::Token;
 use limits::Brackets;
 use limits::Guideline;
+use limits::Refusal;
 use limits::TokenList;
 use terminals::Terminal;
 
@@ -31,10 +32,10 @@ fn early(text: &[u8]) -> Verdict
 {
     let h = high(text);
     if h < text.len() {
-        return Verdict::Broken(1, h);
+        return Verdict::Broken(Refusal::TEXT, h);
     }
     if Guideline::LIMIT < text.len() {
-        return Verdict::Broken(1, h);
+        return Verdict::Broken(Refusal::TEXT, h);
     }
     Verdict::Fine
 }
@@ -45,7 +46,7 @@ fn high(text: &[u8]) -> usize
 {
     let mut i = 0usize;
     while i < text.len() {
-        if 127 < text[i] {
+        if Guideline::LAST_BYTE < text[i] {
             return i;
         }
         i += 1;
@@ -162,13 +163,13 @@ fn late(stop: Stop, end: usize) -> Verdict
     ensures { λ v. ⌜ Late stop end v ⌝ }
 {
     if stop.at < end {
-        return Verdict::Broken(2, stop.at);
+        return Verdict::Broken(Refusal::LEXICAL, stop.at);
     }
     if stop.bad < end {
-        return Verdict::Broken(6, stop.bad);
+        return Verdict::Broken(Refusal::LIMIT, stop.bad);
     }
     if TokenList::LIMIT < stop.n {
-        return Verdict::Broken(6, end);
+        return Verdict::Broken(Refusal::LIMIT, end);
     }
     Verdict::Fine
 }

@@ -1,4 +1,5 @@
 // 8.3.7, SendTrigger.
+use limits::Refusal;
 use limits::Tasks;
 use parts::HANDLE;
 use replying::Reply;
@@ -85,7 +86,7 @@ pub fn trigger(f: &[u32], b: &[u8], s: &mut [u32], name: &[u8]) -> Reply
             }
             return Reply::Done;
         }
-        return Reply::Refused(6);
+        return Reply::Refused(Refusal::LIMIT);
     }
-    Reply::Refused(7)
+    Reply::Refused(Refusal::UNREADY)
 }

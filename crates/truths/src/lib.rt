@@ -1,13 +1,12 @@
 // The expressions of tasks, by the evaluator: conditions, and assigned values.
 use limits::Expression;
+use limits::Marks;
 use limits::Tasks;
 use state::Plan;
 use state::Property;
 use state::Values;
-use values::Scalar;
 use values::Value;
 ghost use mathlib.Core.Path.{_≡_};
-ghost use Rattle.operators.specs.Twins.{trueC};
 ghost use Rattle.truths.specs.Part.{partOf, shownBy};
 ghost use Rattle.parts.specs.Part.{table};
 ghost use Rattle.evaluator.specs.Published.{Published};
@@ -55,24 +54,12 @@ pub fn value_at(x: &[u32], b: &[u8], f: &[u32], s: &[u32], task: usize, end: usi
     )
 }
 
-fn is_true(s: Scalar) -> bool
-    ensures { λ r. ⌜ r ≡ trueC s ⌝ }
-{
-    match s {
-        Scalar::Unknown => false,
-        Scalar::Truth(b) => b,
-        Scalar::Int(_) => false,
-        Scalar::Real(_) => false,
-        Scalar::Text(_) => false,
-    }
-}
-
 // Whether it is true.
 fn truth_of(x: &[u32], b: &[u8], f: &[u32], s: &[u32], task: usize, end: usize) -> bool
     ensures { λ r. ⌜ TruthOf (table (now (x .entry)) (now (b .entry))) (shownBy (now (f .entry)) (now (s .entry))) task end r ⌝ }
 {
     let v = value_at(x, b, f, s, task, end);
-    is_true(values::scalar_of(v))
+    operators::is_true(values::scalar_of(v))
 }
 
 // Whether it is true; `none` where there is none.
@@ -86,7 +73,7 @@ fn held(x: &[u32], b: &[u8], f: &[u32], s: &[u32], task: usize, end: usize, none
 }
 
 // The same of every task, where `ends` is the column of `f` that says where the expressions end.
-fn all_held(x: &[u32], b: &[u8], f: &[u32], s: &[u32], ends: usize, none: bool) -> [bool; 32]
+fn all_held(x: &[u32], b: &[u8], f: &[u32], s: &[u32], ends: usize, none: bool) -> Marks
     ensures { λ r. ⌜ AllHeld none (table (now (x .entry)) (now (b .entry))) (shownBy (now (f .entry)) (now (s .entry))) (now (f .entry)) ends r ⌝ }
 {
     let mut m = [false; Tasks::LIMIT];
@@ -101,14 +88,14 @@ fn all_held(x: &[u32], b: &[u8], f: &[u32], s: &[u32], ends: usize, none: bool) 
 }
 
 // Of every task: whether the expression is true, if there is one.
-pub fn all_allowed(x: &[u32], b: &[u8], f: &[u32], s: &[u32], ends: usize) -> [bool; 32]
+pub fn all_allowed(x: &[u32], b: &[u8], f: &[u32], s: &[u32], ends: usize) -> Marks
     ensures { λ r. ⌜ AllAllowed (table (now (x .entry)) (now (b .entry))) (shownBy (now (f .entry)) (now (s .entry))) (now (f .entry)) ends r ⌝ }
 {
     all_held(x, b, f, s, ends, true)
 }
 
 // Of every task: whether there is one and it is true.
-pub fn all_ended(x: &[u32], b: &[u8], f: &[u32], s: &[u32], ends: usize) -> [bool; 32]
+pub fn all_ended(x: &[u32], b: &[u8], f: &[u32], s: &[u32], ends: usize) -> Marks
     ensures { λ r. ⌜ AllEnded (table (now (x .entry)) (now (b .entry))) (shownBy (now (f .entry)) (now (s .entry))) (now (f .entry)) ends r ⌝ }
 {
     all_held(x, b, f, s, ends, false)

@@ -8,12 +8,16 @@ mod lists;
 use fitting::Role;
 use lists::Summary;
 use parts::Code;
+use parts::Family;
 ghost use mathlib.Core.Path.{_≡_};
 ghost use Prim.Native.Nat.{_<_};
 ghost use Rattle.parts.specs.Part.{table};
 ghost use Rattle.typer.specs.Compound.{compoundOf};
 ghost use Rattle.typer.specs.Typed.{Typed, Gathered};
 ghost use Rattle.typer.specs.Fitting.{Fits};
+
+// No operator takes more operands.
+const OPERANDS: usize = 3;
 
 // A list or an application, from its operands.
 fn compound(kind: usize, n: usize, s: Summary) -> u8
@@ -25,10 +29,10 @@ fn compound(kind: usize, n: usize, s: Summary) -> u8
     if kind == Code::LIST {
         return s.list;
     }
-    if 3 < n {
+    if OPERANDS < n {
         return 0;
     }
-    resolution::apply(kind / 10, s.first, s.second, s.third)
+    resolution::apply(kind / Family::SIZE, s.first, s.second, s.third)
 }
 
 // The types of the `n` operands that end at `p`, from the last to the first.

@@ -1,10 +1,10 @@
 // Whether what is given is within the limits: else it is refused with 6.
-use crate::cells::Tag;
 use crate::cells::natural;
 use crate::cells::number;
 use numbers::Wide;
 use parts::HANDLE;
 use state::Values;
+use values::Tag;
 ghost use Rattle.value_given.specs.Bounds.{TextBy, SmallBy, AllSmall, WithinBy};
 
 fn small_text(bytes: &[u8], w: Wide) -> bool

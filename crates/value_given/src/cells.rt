@@ -6,21 +6,6 @@ ghost use lib.ListN.{getD};
 ghost use Rattle.value_given.specs.Given.{handle-given, lentF, is-one};
 ghost use lib.Signed.{nonNeg};
 
-pub struct Tag {}
-
-// What an element is; another tag is no value.
-impl Tag {
-    pub const UNKNOWN: u32 = 0;
-
-    pub const TRUTH: u32 = 1;
-
-    pub const INTEGER: u32 = 2;
-
-    pub const REAL: u32 = 3;
-
-    pub const TEXT: u32 = 4;
-}
-
 // Whether the cell `i` is lent.
 pub fn lent(tags: &[u32], nums: &[i64], i: usize) -> bool
     ensures { λ r. ⌜ r ≡ lentF (now (tags .entry)) (now (nums .entry)) i ⌝ }

@@ -1,9 +1,10 @@
 // Whether what is given is a value of a declared type: else it is refused with 9.
-use crate::cells::Tag;
 use crate::cells::is_natural;
 use crate::cells::lent;
 use crate::cells::number;
 use numbers::Wide;
+use parts::Declared;
+use values::Tag;
 ghost use mathlib.Core.Path.{_≡_};
 ghost use mathlib.Core.Bool.{true, _||_, _&&_};
 ghost use Prim.Native.Nat.{ℕ, _+_, _-_, _<_};
@@ -11,33 +12,6 @@ ghost use lib.Dec.{eqb};
 ghost use lib.Signed.{nonNeg};
 ghost use Rattle.waits.specs.Booleans.{Tests};
 ghost use Rattle.value_given.specs.Kinds.{one-kind, each-kind, kindF, ofF, TypedBy};
-
-struct Declared {}
-
-// The declared types by their numbers; NONE is none.
-impl Declared {
-    const NONE: u32 = 0;
-
-    const TEXT: u32 = 1;
-
-    const INTEGER: u32 = 2;
-
-    const BOOLEAN: u32 = 3;
-
-    const DATETIME: u32 = 4;
-
-    const DATE: u32 = 5;
-
-    const TIME: u32 = 6;
-
-    const REAL: u32 = 7;
-
-    const SETOF_TEXT: u32 = 8;
-
-    const SETOF_INTEGER: u32 = 9;
-
-    const SETOF_REAL: u32 = 10;
-}
 
 // Of what type one value of the declared type `k` has to be: text, integer or real; where it is NONE, it has to be unknown.
 fn of_one(k: u32) -> u32

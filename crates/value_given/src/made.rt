@@ -1,5 +1,4 @@
 // The value that is given, where there is one within the limits. Its texts stay where they are lent.
-use crate::cells::Tag;
 use crate::cells::is_one;
 use crate::cells::natural;
 use crate::cells::number;
@@ -7,6 +6,7 @@ use numbers::Wide;
 use state::Values;
 use values::List;
 use values::Scalar;
+use values::Tag;
 use values::Value;
 ghost use mathlib.Core.Path.{_≡_};
 ghost use Prim.Native.Nat.{_≤_};

@@ -12,6 +12,7 @@ pub use list::push;
 pub use list::put;
 pub use list::size;
 pub use scalar::Scalar;
+pub use scalar::Tag;
 pub use scalar::integer;
 pub use scalar::is_unknown;
 pub use scalar::real;

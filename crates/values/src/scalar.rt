@@ -13,6 +13,21 @@ pub enum Scalar {
     Text(Handle),
 }
 
+// What a cell that holds a scalar says that it is; the contracts of those that read and write such cells tie it.
+pub struct Tag {}
+
+impl Tag {
+    pub const UNKNOWN: u32 = 0;
+
+    pub const TRUTH: u32 = 1;
+
+    pub const INTEGER: u32 = 2;
+
+    pub const REAL: u32 = 3;
+
+    pub const TEXT: u32 = 4;
+}
+
 // The integer, or unknown beyond its limit.
 pub fn integer(w: Wide) -> Scalar
     ensures { λ r. ⌜ r ≡ integerOf (w .z) ⌝ }

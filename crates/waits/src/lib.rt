@@ -1,4 +1,5 @@
 // The tasks that a task waits for, and marks of tasks.
+use limits::Marks;
 use limits::Tasks;
 use state::Property;
 use state::StartAt;
@@ -71,7 +72,7 @@ fn noted(s: &[u32], waits: bool, a: usize, b: Before) -> Before
 }
 
 // Of all tasks.
-pub fn antecedents(s: &[u32], row: [bool; 32]) -> Before
+pub fn antecedents(s: &[u32], row: Marks) -> Before
     ensures { λ r. ⌜ Upto (now (s .entry)) row 32 r ⌝ }
 {
     let mut b = Before {
@@ -89,7 +90,7 @@ pub fn antecedents(s: &[u32], row: [bool; 32]) -> Before
 }
 
 // The mark of a task.
-pub fn mark(m: [bool; 32], t: usize) -> bool
+pub fn mark(m: Marks, t: usize) -> bool
     ensures { λ r. ⌜ r ≡ marked m t ⌝ }
 {
     if t < Tasks::LIMIT {

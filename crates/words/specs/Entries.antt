@@ -1,5 +1,5 @@
 -- The strings that the look-up knows, in their order, and the table that holds them. Definitions only.
-use Prim.Native.Nat.{ℕ, _≤_, _<_}
+use Prim.Native.Nat.{ℕ, _+_, _≤_, _<_}
 use Prim.Native.String.{String}
 use mathlib.Core.Path.{_≡_}
 use mathlib.Core.Bool.{Bool, true, false}
@@ -11,6 +11,10 @@ use Rattle.paper_tokens.specs.Words.{reserved, yes-or-no, data-types}
 -- the reserved strings by their terminals, then yes and no, then the data types
 unfoldable pub strings : List (List ℕ)
 strings = map (λ (e : ℕ × String). bytes (e .1)) reserved ++ map bytes yes-or-no ++ map bytes data-types
+
+-- where yes and no begin among them, where the data types do, and how many there are
+unfoldable pub places : List ℕ
+places = length reserved ∷ (length reserved + length yes-or-no) ∷ length strings ∷ []
 
 -- one after the other, each behind its length
 unfoldable pub packed : List (List ℕ) → List ℕ

@@ -4,10 +4,10 @@ ghost use mathlib.Core.Bool.{Bool, true};
 ghost use Prim.Native.Nat.{_+_, _≤_, _<_};
 ghost use lib.ListN.{length};
 ghost use Rattle.paper_tokens.specs.Lexical.{part};
-ghost use Rattle.words.specs.Entries.{table, Found, Same};
+ghost use Rattle.words.specs.Entries.{table, places, Found, Same};
 
 // The length of each string, and its bytes: the 95 reserved strings in the order of their terminals, yes and no, the ten data types.
-const WORDS: [u8; 806] = *b"\
+const WORDS: [u8; Known::BYTES] = *b"\
 \x05abort\x06action\x07against\x03and\x03AND\x08argument\x0dargument_name\x0aattributes\x0aautonomous\x09candidate\
 \x07caption\x0bchoice_mode\x09completed\x09component\x0aconfirming\x07context\x0ccycle_repeat\x0bcycle_until\
 \x04data\x04days\x08decision\x0ddefault_value\x0aderivation\x0bdescription\x0adirectives\x03end\x07enquiry\
@@ -20,8 +20,33 @@ const WORDS: [u8; 806] = *b"\
 \x02>=\x02=>\x02!=\x01+\x01-\x01*\x01/\x03yes\x02no\x04text\x07integer\x07boolean\x08datetime\x04date\x04time\
 \x04real\x0asetof_text\x0dsetof_integer\x0asetof_real";
 
-// How many strings there are.
-pub const STRINGS: usize = 107;
+// Where the known strings stand in their order.
+pub struct Known;
+
+impl Known {
+    // the reserved strings come first, each at the number of its terminal, and then yes and no
+    pub const YES: usize = 95;
+
+    pub const NO: usize = Known::FIRST_TYPE - 1;
+
+    // the data types are the last
+    pub const FIRST_TYPE: usize = 97;
+
+    pub const LAST_TYPE: usize = Known::COUNT - 1;
+
+    // how many strings there are: also the answer where none is found
+    pub const COUNT: usize = 107;
+
+    // the bytes of their table
+    pub const BYTES: usize = 806;
+
+    // Those that no other says, in the order of the definitions.
+    pub fn places() -> [usize; 3]
+        ensures { λ r. ⌜ r ≡ places ⌝ }
+    {
+        [Known::YES, Known::FIRST_TYPE, Known::COUNT]
+    }
+}
 
 fn wide(b: u8) -> usize
     ensures { λ r. ⌜ r ≡ b ⌝ }
@@ -30,7 +55,7 @@ fn wide(b: u8) -> usize
 }
 
 // The strings, which a look-up makes once and hands on.
-fn words() -> [u8; 806]
+fn words() -> [u8; Known::BYTES]
     ensures { λ r. ⌜ r ≡ table ⌝ }
 {
     WORDS
@@ -62,7 +87,7 @@ pub fn stands(text: &[u8], at: usize, n: usize, table: &[u8], p: usize, size: us
     same(text, at, table, p, n)
 }
 
-// Which of the strings the n bytes of the text at a place are; STRINGS for none.
+// Which of the strings the n bytes of the text at a place are; Known::COUNT for none.
 pub fn look_up(text: &[u8], at: usize, n: usize) -> usize
     requires { ⌜ at + n ≤ length (now text) ⌝ }
     ensures { λ r. ⌜ Found (part (now (text .entry)) at n) r ⌝ }
@@ -70,7 +95,7 @@ pub fn look_up(text: &[u8], at: usize, n: usize) -> usize
     let words = words();
     let mut p = 0usize;
     let mut i = 0usize;
-    while i < STRINGS {
+    while i < Known::COUNT {
         let size = wide(words[p]);
         if stands(text, at, n, &words, p + 1, size) {
             return i;
@@ -78,5 +103,5 @@ pub fn look_up(text: &[u8], at: usize, n: usize) -> usize
         p += size + 1;
         i += 1;
     }
-    STRINGS
+    Known::COUNT
 }

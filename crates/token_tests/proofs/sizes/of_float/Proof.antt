@@ -9,7 +9,7 @@ use Rattle.paper_tokens.specs.Literals.{behind-point}
 use Rattle.paper_guideline.specs.Limits.{decimal-limit}
 use Rattle.parts.specs.Texts.{cells}
 use Rattle.leaves.specs.Numbers as N
-use Rattle.token_tests.specs.LimitTest.{unsigned}
+use N.{unsigned}
 use Rattle.token_tests.proofs.sizes.of_float.Statement.{statement}
 use Rattle.token_tests.proofs.sizes.of_float.Tie as tie
 

@@ -6,7 +6,7 @@ use borrow.Author.Tests.{lt-ltb, le-ltb}
 use Rattle.paper_expressions.specs.Limits.{integer-limit}
 use Rattle.parts.specs.Texts.{cells}
 use Rattle.leaves.specs.Numbers as N
-use Rattle.token_tests.specs.LimitTest.{unsigned}
+use N.{unsigned}
 use Rattle.token_tests.proofs.sizes.of_integer.Statement.{statement}
 use Rattle.token_tests.proofs.sizes.of_integer.Tie as tie
 

@@ -9,8 +9,8 @@ use Rattle.leaves.specs.Cells.{cells-more, cells-none}
 use Rattle.leaves.specs.Numbers as N
 use N.{most}
 use borrow.Author.Needs.{needs}
-use Rattle.leaves.proofs.numbers.fixed.Statement.{statement}
-use Rattle.leaves.proofs.numbers.fixed.Tie as tie
+use Rattle.leaves.proofs.literals.fixed.Statement.{statement}
+use Rattle.leaves.proofs.literals.fixed.Tie as tie
 
 abbrev Inv-loop : tie.InvT-loop
 Inv-loop text at n v₀ i₀ m₀ v i m = (i + m ≡ at + n) × (v ≤ most) × (N.fixed v (cells text i m) ≡ N.fixed 0 (cells text at n))

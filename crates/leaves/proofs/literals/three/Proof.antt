@@ -3,8 +3,8 @@ use mathlib.Core.Path.{sym}
 use native.Mathlib.Omega.{arith}
 use Rattle.leaves.specs.Cells.{three-one, three-two, three-more}
 use borrow.Author.Needs.{needs}
-use Rattle.leaves.proofs.numbers.three.Statement.{statement}
-use Rattle.leaves.proofs.numbers.three.Tie as tie
+use Rattle.leaves.proofs.literals.three.Statement.{statement}
+use Rattle.leaves.proofs.literals.three.Tie as tie
 
 returns-2 : tie.Need-returns-2
 returns-2 c =

@@ -4,8 +4,8 @@ use native.Mathlib.Omega.{arith}
 use borrow.Author.Tests.{le-leb, lt-leb}
 use Rattle.leaves.specs.Numbers.{most}
 use borrow.Author.Needs.{needs}
-use Rattle.leaves.proofs.numbers.grown.Statement.{statement}
-use Rattle.leaves.proofs.numbers.grown.Tie as tie
+use Rattle.leaves.proofs.literals.grown.Statement.{statement}
+use Rattle.leaves.proofs.literals.grown.Tie as tie
 
 returns : tie.Need-returns
 returns c =

@@ -7,8 +7,8 @@ use Rattle.leaves.specs.Cells.{cells-more, cells-none}
 use Rattle.leaves.specs.Numbers as N
 use N.{most}
 use borrow.Author.Needs.{needs}
-use Rattle.leaves.proofs.numbers.digits.Statement.{statement}
-use Rattle.leaves.proofs.numbers.digits.Tie as tie
+use Rattle.leaves.proofs.literals.digits.Statement.{statement}
+use Rattle.leaves.proofs.literals.digits.Tie as tie
 
 abbrev Inv-loop : tie.InvT-loop
 Inv-loop text at n v₀ i₀ m₀ v i m = (i + m ≡ at + n) × (v ≤ most) × (N.digits v (cells text i m) ≡ N.digits 0 (cells text at n))

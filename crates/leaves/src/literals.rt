@@ -1,10 +1,26 @@
-// The loads of integer and float tokens: 2,000,000,000 and the number. What is past the limits is cut off.
+// The loads of integer and float tokens: that of zero and the number. What is past the limits is cut off.
+use numbers::Num;
 use parts::byte;
 ghost use mathlib.Core.Path.{_≡_};
 ghost use Prim.Native.Nat.{_+_, _-_, _≤_, _<_};
 ghost use lib.ListN.{length};
 ghost use Rattle.parts.specs.Texts.{cells};
-ghost use Rattle.leaves.specs.Numbers.{most, grown as grownOf, digits as digitsOf, three as threeOf, fixed as fixedOf, above as aboveOf, below as belowOf, signed};
+ghost use Rattle.leaves.specs.Numbers.{most, grown as grownOf, digits as digitsOf, three as threeOf, fixed as fixedOf, minus-first, unsigned as unsignedOf, below as belowOf, load-of as loadOf, signed};
+
+const BASE: u32 = 10;
+
+// One, its tenth and its hundredth in thousandths.
+const UNIT: u32 = Num::UNIT as u32;
+
+const TENTH: u32 = UNIT / BASE;
+
+const HUNDREDTH: u32 = TENTH / BASE;
+
+// Above the limit of integers it is no matter how much.
+const MOST: u32 = Num::INTEGER_LIMIT as u32 + 1;
+
+// The load of zero.
+const ZERO: u32 = Num::REAL_LIMIT as u32;
 
 // A digit's number; of a byte that is no digit, anything.
 fn digit(b: u8) -> u32
@@ -21,11 +37,11 @@ fn grown(n: u32, b: u8) -> u32
     requires { ⌜ n ≤ most ⌝ }
     ensures { λ r. ⌜ (r ≡ grownOf n b) × (r ≤ most) ⌝ }
 {
-    let m = n * 10 + digit(b);
-    if m <= 2_000_001 {
+    let m = n * BASE + digit(b);
+    if m <= MOST {
         return m;
     }
-    2_000_001
+    MOST
 }
 
 // The number that `n` digits write.
@@ -52,11 +68,11 @@ fn three(text: &[u8], at: usize, n: usize) -> u32
     if n == 0 {
         return 0;
     }
-    let a = digit(byte(text, at)) * 100;
+    let a = digit(byte(text, at)) * TENTH;
     if n == 1 {
         return a;
     }
-    let b = a + digit(byte(text, at + 1)) * 10;
+    let b = a + digit(byte(text, at + 1)) * HUNDREDTH;
     if n == 2 {
         return b;
     }
@@ -74,29 +90,65 @@ pub fn fixed(text: &[u8], at: usize, n: usize) -> u32
     while 0 < m {
         let b = byte(text, i);
         if b == b'.' {
-            return v * 1000 + three(text, i + 1, m - 1);
+            return v * UNIT + three(text, i + 1, m - 1);
         }
         v = grown(v, b);
         i += 1;
         m -= 1;
     }
-    v * 1000
+    v * UNIT
 }
 
-fn above(v: u32) -> u32
-    requires { ⌜ v ≤ 2000023977 ⌝ }
-    ensures { λ r. ⌜ r ≡ aboveOf v ⌝ }
+// A number without its sign: whether it is a minus, and where the rest stands.
+pub struct Magnitude {
+    pub minus: bool,
+    pub at: usize,
+    pub n: usize,
+}
+
+pub fn unsigned(text: &[u8], at: usize, n: usize) -> Magnitude
+    requires { ⌜ at + n ≤ length (now text) ⌝ }
+    ensures { λ r. ⌜ (cells (now (text .entry)) (r .at) (r .n) ≡ unsignedOf (cells (now (text .entry)) at n)) × (r .at + r .n ≤ length (now (text .entry))) × (r .minus ≡ minus-first (cells (now (text .entry)) at n)) ⌝ }
 {
-    2_000_000_000 + v
+    if n == 0 {
+        return Magnitude {
+            minus: false,
+            at: at,
+            n: 0,
+        };
+    }
+    if byte(text, at) == b'-' {
+        return Magnitude {
+            minus: true,
+            at: at + 1,
+            n: n - 1,
+        };
+    }
+    Magnitude {
+        minus: false,
+        at: at,
+        n: n,
+    }
 }
 
 fn below(v: u32) -> u32
     ensures { λ r. ⌜ r ≡ belowOf v ⌝ }
 {
-    if 2_000_000_000 < v {
+    if ZERO < v {
         return 0;
     }
-    2_000_000_000 - v
+    ZERO - v
+}
+
+// The load of a number with its sign.
+fn load_of(minus: bool, v: u32) -> u32
+    requires { ⌜ v ≤ 2000023977 ⌝ }
+    ensures { λ r. ⌜ r ≡ loadOf minus v ⌝ }
+{
+    if minus {
+        return below(v);
+    }
+    ZERO + v
 }
 
 // The load of an integer token of `n` bytes.
@@ -104,13 +156,8 @@ pub fn integer(text: &[u8], at: usize, n: usize) -> u32
     requires { ⌜ at + n ≤ length (now text) ⌝ }
     ensures { λ r. ⌜ r ≡ signed (digitsOf 0) (cells (now (text .entry)) at n) ⌝ }
 {
-    if n == 0 {
-        return above(digits(text, at, 0));
-    }
-    if byte(text, at) == b'-' {
-        return below(digits(text, at + 1, n - 1));
-    }
-    above(digits(text, at, n))
+    let s = unsigned(text, at, n);
+    load_of(s.minus, digits(text, s.at, s.n))
 }
 
 // The load of a float token of `n` bytes.
@@ -118,11 +165,6 @@ pub fn float(text: &[u8], at: usize, n: usize) -> u32
     requires { ⌜ at + n ≤ length (now text) ⌝ }
     ensures { λ r. ⌜ r ≡ signed (fixedOf 0) (cells (now (text .entry)) at n) ⌝ }
 {
-    if n == 0 {
-        return above(fixed(text, at, 0));
-    }
-    if byte(text, at) == b'-' {
-        return below(fixed(text, at + 1, n - 1));
-    }
-    above(fixed(text, at, n))
+    let s = unsigned(text, at, n);
+    load_of(s.minus, fixed(text, s.at, s.n))
 }
