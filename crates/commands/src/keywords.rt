@@ -1,6 +1,9 @@
 // The words that commands begin with.
-use parts::byte;
 use typed_value::lexemes::is_word;
+ghost use mathlib.Core.Path.{_≡_};
+ghost use mathlib.Core.Bool.{cond};
+ghost use Rattle.typed_value.specs.Lexemes.{wordAt};
+ghost use Rattle.commands.specs.Words.{keywordOf};
 
 pub enum Keyword {
     Run,
@@ -16,41 +19,28 @@ pub enum Keyword {
     None,
 }
 
-// The keyword, if the word is the one that stands between two places.
-fn if_word(s: &[u8], from: usize, to: usize, word: &[u8], k: Keyword) -> Keyword {
+// The keyword, if the word is the one that stands between two places; else the other.
+fn or_else(s: &[u8], from: usize, to: usize, word: &[u8], k: Keyword, other: Keyword) -> Keyword
+    ensures { λ r. ⌜ r ≡ cond (wordAt (now (s .entry)) from to (now (word .entry))) k other ⌝ }
+{
     if is_word(s, from, to, word) {
         return k;
     }
-    Keyword::None
-}
-
-fn by_r(s: &[u8], from: usize, to: usize) -> Keyword {
-    if is_word(s, from, to, b"run") {
-        return Keyword::Run;
-    }
-    if_word(s, from, to, b"rows", Keyword::Rows)
-}
-
-fn by_t(s: &[u8], from: usize, to: usize) -> Keyword {
-    if is_word(s, from, to, b"time") {
-        return Keyword::Time;
-    }
-    if is_word(s, from, to, b"tree") {
-        return Keyword::Tree;
-    }
-    if_word(s, from, to, b"trigger", Keyword::Trigger)
+    other
 }
 
 // The keyword that stands between two places.
-pub fn keyword_at(s: &[u8], from: usize, to: usize) -> Keyword {
-    match byte(s, from) {
-        b'r' => by_r(s, from, to),
-        b't' => by_t(s, from, to),
-        b'c' => if_word(s, from, to, b"confirm", Keyword::Confirm),
-        b'a' => if_word(s, from, to, b"asked", Keyword::Asked),
-        b'w' => if_word(s, from, to, b"why", Keyword::Why),
-        b'h' => if_word(s, from, to, b"help", Keyword::Help),
-        b'q' => if_word(s, from, to, b"quit", Keyword::Quit),
-        _ => Keyword::None,
-    }
+pub fn keyword_at(s: &[u8], from: usize, to: usize) -> Keyword
+    ensures { λ r. ⌜ r ≡ keywordOf (now (s .entry)) from to ⌝ }
+{
+    let k = or_else(s, from, to, b"quit", Keyword::Quit, Keyword::None);
+    let k = or_else(s, from, to, b"help", Keyword::Help, k);
+    let k = or_else(s, from, to, b"why", Keyword::Why, k);
+    let k = or_else(s, from, to, b"asked", Keyword::Asked, k);
+    let k = or_else(s, from, to, b"confirm", Keyword::Confirm, k);
+    let k = or_else(s, from, to, b"trigger", Keyword::Trigger, k);
+    let k = or_else(s, from, to, b"tree", Keyword::Tree, k);
+    let k = or_else(s, from, to, b"time", Keyword::Time, k);
+    let k = or_else(s, from, to, b"rows", Keyword::Rows, k);
+    or_else(s, from, to, b"run", Keyword::Run, k)
 }

@@ -2,7 +2,8 @@
 use parts::byte;
 use typed_value::lexemes::after;
 use typed_value::lexemes::word_end;
-ghost use Rattle.typed_value.specs.Onward.{Onward};
+ghost use mathlib.Core.Path.{_≡_};
+ghost use Rattle.commands.specs.Names.{closesOf, closeOf, noName, quotedOf, nameOf};
 
 // Where a name begins and ends, without its quotes, and the place behind it; whether there is one.
 pub struct Name {
@@ -13,7 +14,9 @@ pub struct Name {
 }
 
 // No name, at a place.
-pub fn none(at: usize) -> Name {
+pub fn none(at: usize) -> Name
+    ensures { λ r. ⌜ r ≡ noName at ⌝ }
+{
     Name {
         there: false,
         from: at,
@@ -23,7 +26,9 @@ pub fn none(at: usize) -> Name {
 }
 
 // Whether a quote closes that stands behind this byte: behind a backslash none does.
-fn closes(before: u8, b: u8) -> bool {
+fn closes(before: u8, b: u8) -> bool
+    ensures { λ r. ⌜ r ≡ closesOf before b ⌝ }
+{
     if before == b'\\' {
         return false;
     }
@@ -32,7 +37,7 @@ fn closes(before: u8, b: u8) -> bool {
 
 // The place of the quote that closes the name from here on, or the end.
 fn close(s: &[u8], from: usize) -> usize
-    ensures { λ r. ⌜ Onward (now (s .entry)) from r ⌝ }
+    ensures { λ r. ⌜ r ≡ closeOf (now (s .entry)) from ⌝ }
 {
     let mut before = b'\'';
     let mut p = from;
@@ -47,7 +52,9 @@ fn close(s: &[u8], from: usize) -> usize
 }
 
 // A name behind its opening quote.
-fn quoted(s: &[u8], from: usize) -> Name {
+fn quoted(s: &[u8], from: usize) -> Name
+    ensures { λ r. ⌜ r ≡ quotedOf (now (s .entry)) from ⌝ }
+{
     let to = close(s, from);
     if s.len() <= to {
         return none(from);
@@ -61,7 +68,9 @@ fn quoted(s: &[u8], from: usize) -> Name {
 }
 
 // The name that stands here.
-pub fn name_at(s: &[u8], at: usize) -> Name {
+pub fn name_at(s: &[u8], at: usize) -> Name
+    ensures { λ r. ⌜ r ≡ nameOf (now (s .entry)) at ⌝ }
+{
     if byte(s, at) == b'\'' {
         return quoted(s, after(s, at));
     }

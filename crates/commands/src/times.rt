@@ -2,7 +2,11 @@
 use typed_value::lexemes::is_word;
 use typed_value::lexemes::skip;
 use typed_value::lexemes::word_end;
+ghost use mathlib.Core.Path.{_≡_};
+ghost use mathlib.Core.Bool.{cond, _||_};
 ghost use Prim.Native.Nat.{_≤_};
+ghost use Rattle.typed_value.specs.Lexemes.{digitb, wordAt};
+ghost use Rattle.commands.specs.Times.{withDigit, numberOf, measureOf, isNone, secondsOf, noAmount, amountOf};
 
 // No number within the limits is greater; one that is so great stands for all that are beyond.
 const GREATEST: u64 = 100_000_000_000;
@@ -39,16 +43,18 @@ pub struct Amount {
     pub next: usize,
 }
 
-fn is_digit(b: u8) -> bool {
-    match b {
-        b'0'..=b'9' => true,
-        _ => false,
+fn is_digit(b: u8) -> bool
+    ensures { λ r. ⌜ r ≡ digitb b ⌝ }
+{
+    if b'0' <= b {
+        return b <= b'9';
     }
+    false
 }
 
 // A number with one digit more.
 fn with_digit(n: u64, b: u8) -> u64
-    ensures { λ r. ⌜ r ≤ 100000000000 ⌝ }
+    ensures { λ r. ⌜ (r ≤ 100000000000) × (r ≡ withDigit n b) ⌝ }
 {
     if b < b'0' {
         return 0;
@@ -61,7 +67,7 @@ fn with_digit(n: u64, b: u8) -> u64
 
 // The number that stands here.
 pub fn number(s: &[u8], at: usize) -> Numeral
-    ensures { λ r. ⌜ r .value ≤ 100000000000 ⌝ }
+    ensures { λ r. ⌜ (r .value ≤ 100000000000) × (r ≡ numberOf (now (s .entry)) at) ⌝ }
 {
     let mut n = 0u64;
     let mut p = at;
@@ -75,38 +81,52 @@ pub fn number(s: &[u8], at: usize) -> Numeral
     Numeral { value: n, next: p }
 }
 
-// Whether a word is this unit, one or many.
-fn is_unit(s: &[u8], from: usize, to: usize, one: &[u8], many: &[u8]) -> bool {
+// The unit, if the word that stands between two places is it, one or many; else the other.
+fn or_else(
+    s: &[u8],
+    from: usize,
+    to: usize,
+    one: &[u8],
+    many: &[u8],
+    m: Measure,
+    other: Measure,
+) -> Measure
+    ensures { λ r. ⌜ r ≡ cond (wordAt (now (s .entry)) from to (now (one .entry)) || wordAt (now (s .entry)) from to (now (many .entry))) m other ⌝ }
+{
     if is_word(s, from, to, one) {
-        return true;
+        return m;
     }
-    is_word(s, from, to, many)
+    if is_word(s, from, to, many) {
+        return m;
+    }
+    other
 }
 
 // The unit that stands between two places; without one it is seconds.
-fn unit(s: &[u8], from: usize, to: usize) -> Measure {
+fn unit(s: &[u8], from: usize, to: usize) -> Measure
+    ensures { λ r. ⌜ r ≡ measureOf (now (s .entry)) from to ⌝ }
+{
     if to <= from {
         return Measure::Seconds;
     }
-    if is_unit(s, from, to, b"second", b"seconds") {
-        return Measure::Seconds;
-    }
-    if is_unit(s, from, to, b"minute", b"minutes") {
-        return Measure::Minutes;
-    }
-    if is_unit(s, from, to, b"hour", b"hours") {
-        return Measure::Hours;
-    }
-    if is_unit(s, from, to, b"day", b"days") {
-        return Measure::Days;
-    }
-    if is_unit(s, from, to, b"week", b"weeks") {
-        return Measure::Weeks;
-    }
-    Measure::None
+    let m = or_else(
+        s,
+        from,
+        to,
+        b"week",
+        b"weeks",
+        Measure::Weeks,
+        Measure::None,
+    );
+    let m = or_else(s, from, to, b"day", b"days", Measure::Days, m);
+    let m = or_else(s, from, to, b"hour", b"hours", Measure::Hours, m);
+    let m = or_else(s, from, to, b"minute", b"minutes", Measure::Minutes, m);
+    or_else(s, from, to, b"second", b"seconds", Measure::Seconds, m)
 }
 
-fn is_none(m: Measure) -> bool {
+fn is_none(m: Measure) -> bool
+    ensures { λ r. ⌜ r ≡ isNone m ⌝ }
+{
     match m {
         Measure::Seconds => false,
         Measure::Minutes => false,
@@ -120,6 +140,7 @@ fn is_none(m: Measure) -> bool {
 // How many seconds so many of them are.
 fn seconds(n: u64, m: Measure) -> u64
     requires { ⌜ n ≤ 100000000000 ⌝ }
+    ensures { λ r. ⌜ r ≡ secondsOf n m ⌝ }
 {
     match m {
         Measure::Seconds => n,
@@ -132,7 +153,9 @@ fn seconds(n: u64, m: Measure) -> u64
 }
 
 // No amount: it stops making sense here.
-fn no_amount(at: usize) -> Amount {
+fn no_amount(at: usize) -> Amount
+    ensures { λ r. ⌜ r ≡ noAmount at ⌝ }
+{
     Amount {
         there: false,
         seconds: 0,
@@ -141,7 +164,9 @@ fn no_amount(at: usize) -> Amount {
 }
 
 // The amount of time that stands here, and nothing behind it.
-pub fn amount_at(s: &[u8], at: usize) -> Amount {
+pub fn amount_at(s: &[u8], at: usize) -> Amount
+    ensures { λ r. ⌜ r ≡ amountOf (now (s .entry)) at ⌝ }
+{
     let from = skip(s, at);
     let n = number(s, from);
     if n.next <= from {

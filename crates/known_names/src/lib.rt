@@ -2,6 +2,7 @@
 // Capital letters make no difference, as in expressions.
 mod lookup;
 mod missing;
+mod nearness;
 
 pub use lookup::Sort;
 pub use lookup::count;
@@ -10,3 +11,6 @@ pub use lookup::handle_of;
 pub use lookup::is_trigger;
 pub use missing::none;
 pub use missing::tell;
+pub use nearness::Near;
+pub use nearness::is_meant;
+pub use nearness::nearest;

@@ -1,11 +1,15 @@
 // The names that the plan has, and the one that is meant.
 use parts::HANDLE;
 use parts::names::at;
+use parts::names::letter;
+use parts::names::lower;
 use row_tests::cells::handle;
-use sentences::slips::alike;
-use sentences::slips::folded;
 use state::Plan;
-use values::Handle;
+ghost use mathlib.Core.Path.{_≡_};
+ghost use Rattle.paper_expressions.specs.Laws.Search.{sameb, alikeb};
+ghost use Rattle.parts.specs.Texts.{textAt};
+ghost use Rattle.explain_rows.specs.Firsts.{First};
+ghost use Rattle.known_names.specs.Names.{countOf, handleOf, thereOf, namedAt, triggerAt};
 
 // What has such a name.
 pub enum Sort {
@@ -18,7 +22,9 @@ pub enum Sort {
 const ROOT: usize = 0;
 
 // How many of them there are; of triggers, how many tasks might have one.
-pub fn count(plan: &[u32], s: Sort) -> usize {
+pub fn count(plan: &[u32], s: Sort) -> usize
+    ensures { λ r. ⌜ r ≡ countOf (now (plan .entry)) s ⌝ }
+{
     match s {
         Sort::Task => parts::number(plan, Plan::TASKS),
         Sort::Item => parts::number(plan, Plan::ITEMS),
@@ -26,7 +32,9 @@ pub fn count(plan: &[u32], s: Sort) -> usize {
     }
 }
 
-fn of_task(rows: &[u32], plan: &[u32], t: usize) -> usize {
+fn of_task(rows: &[u32], plan: &[u32], t: usize) -> usize
+    ensures { λ r. ⌜ r ≡ handleOf (now (rows .entry)) (now (plan .entry)) Sort.Task t ⌝ }
+{
     if t == ROOT {
         return handle(rows, ROOT);
     }
@@ -34,7 +42,9 @@ fn of_task(rows: &[u32], plan: &[u32], t: usize) -> usize {
 }
 
 // The handle of the i-th name.
-pub fn handle_of(rows: &[u32], plan: &[u32], s: Sort, i: usize) -> usize {
+pub fn handle_of(rows: &[u32], plan: &[u32], s: Sort, i: usize) -> usize
+    ensures { λ r. ⌜ r ≡ handleOf (now (rows .entry)) (now (plan .entry)) s i ⌝ }
+{
     match s {
         Sort::Task => of_task(rows, plan, i),
         Sort::Item => state::cell(plan, Plan::ITEM_NAME, i),
@@ -43,7 +53,9 @@ pub fn handle_of(rows: &[u32], plan: &[u32], s: Sort, i: usize) -> usize {
 }
 
 // Whether there is an i-th: not every task has a trigger.
-pub fn is_there(plan: &[u32], s: Sort, i: usize) -> bool {
+pub fn is_there(plan: &[u32], s: Sort, i: usize) -> bool
+    ensures { λ r. ⌜ r ≡ thereOf (now (plan .entry)) s i ⌝ }
+{
     match s {
         Sort::Task => true,
         Sort::Item => true,
@@ -51,39 +63,40 @@ pub fn is_there(plan: &[u32], s: Sort, i: usize) -> bool {
     }
 }
 
-// Whether a name is that with the handle `h`, or a slip for it, case aside. A longer one than a guideline has is none.
-fn is_like(name: &[u8], texts: &[u8], h: usize, slip: bool) -> bool {
-    if Handle::TEXT_LIMIT < name.len() {
+// Whether a name is that with the handle `h`, case aside.
+fn is_alike(name: &[u8], texts: &[u8], h: usize) -> bool
+    ensures { λ r. ⌜ r ≡ alikeb (now (name .entry)) (textAt (now (texts .entry)) h) ⌝ }
+{
+    if name.len() != h % HANDLE {
         return false;
     }
-    let mut a = [0u8; 48];
-    let n = folded(name, 0, name.len(), &mut a);
-    let mut b = [0u8; 48];
-    let m = folded(texts, h / HANDLE, h % HANDLE, &mut b);
-    alike(&a, n, &b, m, slip)
+    let mut i = 0usize;
+    while i < name.len() {
+        if lower(name[i]) != letter(texts, h / HANDLE, i) {
+            return false;
+        }
+        i += 1;
+    }
+    true
 }
 
-fn is_named(
-    rows: &[u32],
-    texts: &[u8],
-    plan: &[u32],
-    s: Sort,
-    name: &[u8],
-    slip: bool,
-    i: usize,
-) -> bool {
+fn is_named(rows: &[u32], texts: &[u8], plan: &[u32], s: Sort, name: &[u8], i: usize) -> bool
+    ensures { λ r. ⌜ r ≡ namedAt (now (rows .entry)) (now (texts .entry)) (now (plan .entry)) s (now (name .entry)) i ⌝ }
+{
     if !is_there(plan, s, i) {
         return false;
     }
-    is_like(name, texts, handle_of(rows, plan, s, i), slip)
+    is_alike(name, texts, handle_of(rows, plan, s, i))
 }
 
-// The first with the name, or one that is a slip away from it; how many there are, if none has it.
-pub fn first(rows: &[u32], texts: &[u8], plan: &[u32], s: Sort, name: &[u8], slip: bool) -> usize {
+// The one with the name; how many there are, if none has it.
+pub fn find(rows: &[u32], texts: &[u8], plan: &[u32], s: Sort, name: &[u8]) -> usize
+    ensures { λ r. ⌜ First (namedAt (now (rows .entry)) (now (texts .entry)) (now (plan .entry)) s (now (name .entry))) (countOf (now (plan .entry)) s) r ⌝ }
+{
     let n = count(plan, s);
     let mut i = 0usize;
     while i < n {
-        if is_named(rows, texts, plan, s, name, slip, i) {
+        if is_named(rows, texts, plan, s, name, i) {
             return i;
         }
         i += 1;
@@ -91,13 +104,10 @@ pub fn first(rows: &[u32], texts: &[u8], plan: &[u32], s: Sort, name: &[u8], sli
     n
 }
 
-// The one with the name; how many there are, if none has it.
-pub fn find(rows: &[u32], texts: &[u8], plan: &[u32], s: Sort, name: &[u8]) -> usize {
-    first(rows, texts, plan, s, name, false)
-}
-
 // Whether the bytes are those of the text with the handle `h`.
-fn is_same(name: &[u8], texts: &[u8], h: usize) -> bool {
+fn is_same(name: &[u8], texts: &[u8], h: usize) -> bool
+    ensures { λ r. ⌜ r ≡ sameb (now (name .entry)) (textAt (now (texts .entry)) h) ⌝ }
+{
     if name.len() != h % HANDLE {
         return false;
     }
@@ -112,7 +122,9 @@ fn is_same(name: &[u8], texts: &[u8], h: usize) -> bool {
 }
 
 // Whether the task has this trigger, byte for byte.
-pub fn is_trigger(texts: &[u8], plan: &[u32], name: &[u8], t: usize) -> bool {
+pub fn is_trigger(texts: &[u8], plan: &[u32], name: &[u8], t: usize) -> bool
+    ensures { λ r. ⌜ r ≡ triggerAt (now (texts .entry)) (now (plan .entry)) (now (name .entry)) t ⌝ }
+{
     if !is_there(plan, Sort::Trigger, t) {
         return false;
     }

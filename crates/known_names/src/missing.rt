@@ -1,9 +1,10 @@
 // What is told of a name that nothing has.
 use crate::lookup::Sort;
 use crate::lookup::count;
-use crate::lookup::first;
 use crate::lookup::handle_of;
 use crate::lookup::is_there;
+use crate::nearness::is_meant;
+use crate::nearness::nearest;
 use sentences::slips;
 use sentences::write;
 
@@ -64,18 +65,33 @@ fn all_or_none(rows: &[u32], texts: &[u8], plan: &[u32], s: Sort) {
     write::text(b" There is none.");
 }
 
-// The one that is a slip away, or all of them.
-fn nearest(rows: &[u32], texts: &[u8], plan: &[u32], s: Sort, name: &[u8]) {
-    let i = first(rows, texts, plan, s, name, true);
-    if count(plan, s) <= i {
+// How far off the nearest is. Triggers alone have to have the same capitals, and can be off by nothing else.
+fn how_far(off: usize) {
+    if off == 0 {
+        write::text(b"; here capital letters have to be the same.");
+        return;
+    }
+    if off == 1 {
+        write::text(b", a letter off.");
+        return;
+    }
+    write::text(b", ");
+    write::number(off);
+    write::text(b" letters off.");
+}
+
+// The nearest, where it may have been meant, or all of them.
+fn instead(rows: &[u32], texts: &[u8], plan: &[u32], s: Sort, name: &[u8]) {
+    let near = nearest(rows, texts, plan, s, name);
+    if !is_meant(near, name.len()) {
         all_or_none(rows, texts, plan, s);
         return;
     }
     write::text(b" There is a ");
     sort(s);
     write::text(b" ");
-    tell(rows, texts, plan, s, i);
-    write::text(b", a letter off.");
+    tell(rows, texts, plan, s, near.at);
+    how_far(near.off);
 }
 
 // That nothing has the name.
@@ -85,6 +101,6 @@ pub fn none(rows: &[u32], texts: &[u8], plan: &[u32], s: Sort, name: &[u8]) {
     write::text(b" is named ");
     write::part(name, 0, name.len());
     write::text(b".");
-    nearest(rows, texts, plan, s, name);
+    instead(rows, texts, plan, s, name);
     write::text(b"\n");
 }

@@ -9,6 +9,7 @@ use sentences::write;
 use state::Plan;
 use typed_value::Room;
 use typed_value::Typed;
+ghost use Rattle.told_calls.specs.Told.{GivenBy, ValueGiven};
 
 // Why the data item does not take what was given.
 fn misfit(rows: &[u32], texts: &[u8], plan: &[u32], d: usize, tags: &[u32]) {
@@ -48,7 +49,9 @@ fn add(
     tags: &[u32],
     numbers: &[i64],
     bytes: &[u8],
-) {
+)
+    ensures { λ _. ⌜ GivenBy d (now (texts .entry)) (now (plan .entry)) (now (state .entry)) (now (texts .exit)) (now (state .exit)) ⌝ }
+{
     match schotterei::add(texts, plan, state, d as u64, tags, numbers, bytes) {
         Reply::Done => {
             known_names::tell(rows, texts, plan, Sort::Item, d);
@@ -67,7 +70,9 @@ pub fn give(
     texts: &mut [u8],
     plan: &[u32],
     state: &mut [u32],
-) {
+)
+    ensures { λ _. ⌜ ValueGiven (now (rows .entry)) (now (plan .entry)) (now (name .entry)) (now (texts .entry)) (now (state .entry)) (now (texts .exit)) (now (state .exit)) ⌝ }
+{
     let d = known_names::find(rows, texts, plan, Sort::Item, name);
     if known_names::count(plan, Sort::Item) <= d {
         known_names::none(rows, texts, plan, Sort::Item, name);

@@ -3,6 +3,8 @@ use libc::STDOUT_FILENO;
 use sentences::write;
 use typed_value::Kind;
 use typed_value::Room;
+ghost use mathlib.Core.Path.{_≡_};
+ghost use Rattle.told_calls.specs.Told.{elementsOf};
 
 // The place of an element, given by its tag, among the texts below.
 fn place_of(tag: u32) -> usize {
@@ -25,7 +27,9 @@ fn element(tag: u32) {
 }
 
 // How many elements a value of this shape has: it is one, or a list.
-pub fn count(shape: u32) -> usize {
+pub fn count(shape: u32) -> usize
+    ensures { λ r. ⌜ r ≡ elementsOf shape ⌝ }
+{
     if shape == 0 {
         return 1;
     }

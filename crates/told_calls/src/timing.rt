@@ -4,13 +4,16 @@ use limits::EngineTime;
 use replying::Reply;
 use sentences::write;
 use state::Header;
+ghost use mathlib.Core.Path.{_≡_};
 ghost use Prim.Native.Nat.{_≤_};
+ghost use lib.ListN.{getD};
+ghost use Rattle.told_calls.specs.Told.{TimeSet, laterOf, earlierOf};
 
 // One beyond the limit stands for every time that is none.
 const BEYOND: u64 = EngineTime::LIMIT + 1;
 
 fn now(state: &[u32]) -> u64
-    ensures { λ r. ⌜ r ≤ 4294967295 ⌝ }
+    ensures { λ r. ⌜ (r ≤ 4294967295) × (r ≡ getD (now (state .entry)) 2 0) ⌝ }
 {
     blocks::cell(state, Header::TIME) as u64
 }
@@ -23,7 +26,9 @@ fn tell(state: &[u32]) {
 }
 
 // Sets the time, in seconds.
-pub fn set(state: &mut [u32], time: u64) {
+pub fn set(state: &mut [u32], time: u64)
+    ensures { λ _. ⌜ TimeSet time (now (state .entry)) (now (state .exit)) ⌝ }
+{
     match schotterei::set_time(state, time) {
         Reply::Done => tell(state),
         Reply::Refused(n) => {
@@ -38,7 +43,9 @@ pub fn set(state: &mut [u32], time: u64) {
 }
 
 // Moves it on by so many seconds.
-pub fn later(state: &mut [u32], seconds: u64) {
+pub fn later(state: &mut [u32], seconds: u64)
+    ensures { λ _. ⌜ TimeSet (laterOf (getD (now (state .entry)) 2 0) seconds) (now (state .entry)) (now (state .exit)) ⌝ }
+{
     let t = now(state);
     if BEYOND < seconds {
         set(state, BEYOND);
@@ -48,7 +55,9 @@ pub fn later(state: &mut [u32], seconds: u64) {
 }
 
 // Moves it back.
-pub fn earlier(state: &mut [u32], seconds: u64) {
+pub fn earlier(state: &mut [u32], seconds: u64)
+    ensures { λ _. ⌜ TimeSet (earlierOf (getD (now (state .entry)) 2 0) seconds) (now (state .entry)) (now (state .exit)) ⌝ }
+{
     let t = now(state);
     if t < seconds {
         set(state, BEYOND);

@@ -5,6 +5,7 @@ use replying::Reply;
 use sentences::write;
 use state::Property;
 use state::Tag;
+ghost use Rattle.told_calls.specs.Told.{TriggerSent};
 
 // Whether the task waits to start by its trigger.
 fn is_active(state: &[u32], t: usize) -> bool {
@@ -48,7 +49,9 @@ fn sent(rows: &[u32], texts: &[u8], plan: &[u32], state: &[u32], name: &[u8]) {
 }
 
 // Sends the trigger with the name.
-pub fn trigger(rows: &[u32], texts: &[u8], plan: &[u32], state: &mut [u32], name: &[u8]) {
+pub fn trigger(rows: &[u32], texts: &[u8], plan: &[u32], state: &mut [u32], name: &[u8])
+    ensures { λ _. ⌜ TriggerSent (now (name .entry)) (now (texts .entry)) (now (plan .entry)) (now (state .entry)) (now (state .exit)) ⌝ }
+{
     match schotterei::trigger(texts, plan, state, name) {
         Reply::Done => sent(rows, texts, plan, state, name),
         Reply::Refused(n) => {

@@ -1,1 +1,4 @@
+pub mod Lexemes
+pub mod LexemeLaws
 pub mod Onward
+pub mod Texts

@@ -1,10 +1,14 @@
 // Blanks and words of a line: where they end. No place that is answered lies behind the text.
 use parts::byte;
+ghost use mathlib.Core.Path.{_≡_};
+ghost use mathlib.Core.Bool.{_&&_};
+ghost use lib.Dec.{leb};
 ghost use Rattle.typed_value.specs.Onward.{Onward};
+ghost use Rattle.typed_value.specs.Lexemes.{afterOf, past, blankb, letterb, wordAt};
 
 // The place behind one byte.
 pub fn after(s: &[u8], at: usize) -> usize
-    ensures { λ r. ⌜ Onward (now (s .entry)) at r ⌝ }
+    ensures { λ r. ⌜ Onward (now (s .entry)) at r × (r ≡ afterOf (now (s .entry)) at) ⌝ }
 {
     if at < s.len() {
         return at + 1;
@@ -12,16 +16,21 @@ pub fn after(s: &[u8], at: usize) -> usize
     at
 }
 
-fn is_blank(b: u8) -> bool {
-    match b {
-        b' ' | b'\t' | b'\r' => true,
-        _ => false,
+fn is_blank(b: u8) -> bool
+    ensures { λ r. ⌜ r ≡ blankb b ⌝ }
+{
+    if b == b' ' {
+        return true;
     }
+    if b == b'\t' {
+        return true;
+    }
+    b == b'\r'
 }
 
 // The first place from here on where no blank stands.
 pub fn skip(s: &[u8], at: usize) -> usize
-    ensures { λ r. ⌜ Onward (now (s .entry)) at r ⌝ }
+    ensures { λ r. ⌜ Onward (now (s .entry)) at r × (r ≡ past blankb (now (s .entry)) at) ⌝ }
 {
     let mut p = at;
     while p < s.len() {
@@ -33,20 +42,34 @@ pub fn skip(s: &[u8], at: usize) -> usize
     p
 }
 
-// What a bare word is made of.
-pub fn is_letter(b: u8) -> bool {
-    match b {
-        b'a'..=b'z' => true,
-        b'A'..=b'Z' => true,
-        b'0'..=b'9' => true,
-        b'_' => true,
-        _ => false,
+fn is_between(b: u8, low: u8, high: u8) -> bool
+    ensures { λ r. ⌜ r ≡ (leb low b && leb b high) ⌝ }
+{
+    if low <= b {
+        return b <= high;
     }
+    false
+}
+
+// What a bare word is made of.
+pub fn is_letter(b: u8) -> bool
+    ensures { λ r. ⌜ r ≡ letterb b ⌝ }
+{
+    if is_between(b, b'a', b'z') {
+        return true;
+    }
+    if is_between(b, b'A', b'Z') {
+        return true;
+    }
+    if is_between(b, b'0', b'9') {
+        return true;
+    }
+    b == b'_'
 }
 
 // The place behind the bare word that stands here.
 pub fn word_end(s: &[u8], at: usize) -> usize
-    ensures { λ r. ⌜ Onward (now (s .entry)) at r ⌝ }
+    ensures { λ r. ⌜ Onward (now (s .entry)) at r × (r ≡ past letterb (now (s .entry)) at) ⌝ }
 {
     let mut p = at;
     while p < s.len() {
@@ -59,18 +82,21 @@ pub fn word_end(s: &[u8], at: usize) -> usize
 }
 
 // Whether the word stands between two places.
-pub fn is_word(s: &[u8], from: usize, to: usize, word: &[u8]) -> bool {
-    let mut p = from;
+pub fn is_word(s: &[u8], from: usize, to: usize, word: &[u8]) -> bool
+    ensures { λ r. ⌜ r ≡ wordAt (now (s .entry)) from to (now (word .entry)) ⌝ }
+{
+    if to < from {
+        return false;
+    }
+    if to - from != word.len() {
+        return false;
+    }
     let mut i = 0usize;
     while i < word.len() {
-        if to <= p {
+        if byte(s, from + i) != word[i] {
             return false;
         }
-        if byte(s, p) != word[i] {
-            return false;
-        }
-        p += 1;
         i += 1;
     }
-    p == to
+    true
 }

@@ -1,5 +1,6 @@
 // One step of reading: the place that it came to, and what is wrong there.
 ghost use mathlib.Core.Path.{_≡_};
+ghost use Rattle.typed_value.specs.Lexemes.{fine};
 
 // What is wrong.
 pub enum Slip {
@@ -31,7 +32,7 @@ pub struct Step {
 }
 
 pub fn reached(place: usize, slip: Slip) -> Step
-    ensures { λ r. ⌜ r .place ≡ place ⌝ }
+    ensures { λ r. ⌜ (r .place ≡ place) × (r .slip ≡ slip) ⌝ }
 {
     Step {
         place: place,
@@ -39,7 +40,9 @@ pub fn reached(place: usize, slip: Slip) -> Step
     }
 }
 
-pub fn is_fine(slip: Slip) -> bool {
+pub fn is_fine(slip: Slip) -> bool
+    ensures { λ r. ⌜ r ≡ fine slip ⌝ }
+{
     match slip {
         Slip::Fine => true,
         Slip::Missing => false,

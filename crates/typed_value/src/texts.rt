@@ -8,8 +8,10 @@ use crate::lexemes::after;
 use crate::steps::Slip;
 use parts::HANDLE;
 use parts::byte;
+ghost use mathlib.Core.Path.{_≡_};
 ghost use Prim.Native.Nat.{_≤_};
 ghost use Rattle.typed_value.specs.Onward.{Onward};
+ghost use Rattle.typed_value.specs.Texts.{keptOf, TextCopied};
 
 // Whether a quote closes that stands behind this byte.
 fn closes(before: u8, b: u8) -> bool {
@@ -37,7 +39,7 @@ fn close(s: &[u8], from: usize) -> usize
 
 // As many bytes as a handle can tell: one that is longer stands for all that are beyond the limit.
 fn kept(n: usize) -> usize
-    ensures { λ r. ⌜ r ≤ 63 ⌝ }
+    ensures { λ r. ⌜ (r ≤ 63) × (r ≡ keptOf n) ⌝ }
 {
     if n < Room::KEPT {
         return n;
@@ -46,7 +48,9 @@ fn kept(n: usize) -> usize
 }
 
 // The text of the i-th element: `n` bytes from here on, to its place among the bytes. The answer is its handle.
-pub fn copy(s: &[u8], from: usize, n: usize, bytes: &mut [u8], i: usize) -> i64 {
+pub fn copy(s: &[u8], from: usize, n: usize, bytes: &mut [u8], i: usize) -> i64
+    ensures { λ r. ⌜ TextCopied (now (s .entry)) from n i (now (bytes .entry)) (now (bytes .exit)) r ⌝ }
+{
     if Room::ELEMENTS <= i {
         return 0;
     }
