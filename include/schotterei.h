@@ -19,8 +19,8 @@ extern "C" {
 #define SCHOTTEREI_WAITS 1024
 #define SCHOTTEREI_TEXTS 65536
 #define SCHOTTEREI_STATE 2952
-/* Four cells for each of 1,024 rows. */
-#define SCHOTTEREI_CHANGES 4096
+/* Rows of the Changes table. */
+#define SCHOTTEREI_CHANGES 1024
 /* The cells and bytes of a value that a row shows. */
 #define SCHOTTEREI_VALUE_CELLS 34
 #define SCHOTTEREI_VALUE_BYTES 768
@@ -46,6 +46,14 @@ typedef struct {
     uint64_t place;
 } schotterei_outcome;
 
+/* A row of the Changes table: its component, its property, and the tag and number of its new value. All zero is blank. */
+typedef struct {
+    uint32_t component;
+    uint32_t property;
+    uint32_t tag;
+    uint32_t number;
+} schotterei_change;
+
 /* Loads a guideline from its text, afresh, at engine time 0: the tables are then those of every other call. Refused 1 to 6 and 10,
    with the place in the text; 6 at the text's length where a table is too short. All tables are zero after a refusal. */
 schotterei_outcome schotterei_load(const uint8_t *text, size_t text_length, uint32_t *rows, size_t rows_length,
@@ -54,11 +62,11 @@ schotterei_outcome schotterei_load(const uint8_t *text, size_t text_length, uint
                                    uint32_t *state, size_t state_length);
 
 /* Runs the engine for at most bound cycles. Refused 7: nothing is loaded, or an exception has stopped it; 6: the bound is over 256,
-   or fewer than 1,024 rows are lent. The Changes table is blank after an accepted run. */
+   or fewer than 1,024 rows are lent. What the Changes table held is ignored, and every row of it is blank after an accepted run. */
 schotterei_outcome schotterei_run(const uint32_t *parts, size_t parts_length, uint8_t *texts, size_t texts_length,
                                   const uint32_t *plan, size_t plan_length, const uint8_t *waits, size_t waits_length,
-                                  uint32_t *state, size_t state_length, uint32_t *changes, size_t changes_length,
-                                  uint64_t bound);
+                                  uint32_t *state, size_t state_length, schotterei_change *changes,
+                                  size_t changes_length, uint64_t bound);
 
 /* Sets the engine time, in seconds. Refused 7, or 6: over 4,294,967,295. */
 schotterei_outcome schotterei_set_time(uint32_t *state, size_t state_length, uint64_t time);

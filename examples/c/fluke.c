@@ -13,7 +13,7 @@ enum { STATE = 6, VALUE = 42 };
 /* The guideline and its state, lent to every call. */
 static uint32_t rows[SCHOTTEREI_ROWS], parts[SCHOTTEREI_PARTS], plan[SCHOTTEREI_PLAN], state[SCHOTTEREI_STATE];
 static uint8_t waits[SCHOTTEREI_WAITS], texts[SCHOTTEREI_TEXTS];
-static uint32_t changes[SCHOTTEREI_CHANGES];
+static schotterei_change changes[SCHOTTEREI_CHANGES];
 
 /* Ends the program where a call is refused. */
 static int refused(const char *call, schotterei_outcome outcome)

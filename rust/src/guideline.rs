@@ -5,7 +5,7 @@ use crate::raw::{self, Outcome};
 use crate::refusal::Refusal;
 use crate::row::{kind, property, Component, Row};
 use crate::rows::Rows;
-use crate::tables::{Tables, FLAG, TIME};
+use crate::tables::{Change, Tables, FLAG, TIME};
 use crate::value::{Scalar, Value};
 
 /// A guideline in its own tables. Calls may come in any order; a refused one changes nothing.
@@ -78,9 +78,9 @@ impl Guideline {
         ran(raw::run(parts, texts, plan, waits.as_slice(), state, changes, bound))
     }
 
-    /// The same with a Changes table of the caller's, four cells a row: it is blank afterwards. Fewer than 1,024 rows
-    /// are refused with 6.
-    pub fn run_with(&mut self, bound: u64, changes: &mut [u32]) -> Result<Run, Refusal> {
+    /// The same with a Changes table of the caller's: every row is blank afterwards. Fewer than 1,024 rows are refused
+    /// with 6.
+    pub fn run_with(&mut self, bound: u64, changes: &mut [Change]) -> Result<Run, Refusal> {
         let Tables { parts, plan, waits, texts, state, .. } = &mut self.tables;
         ran(raw::run(parts, texts, plan, waits.as_slice(), state, changes, bound))
     }

@@ -17,4 +17,5 @@ pub use guideline::{Ending, Guideline, Run};
 pub use refusal::{Reason, Refusal};
 pub use row::{kind, property, Class, Component, Row, State, Type};
 pub use rows::Rows;
+pub use tables::Change;
 pub use value::{Scalar, Value};

@@ -2,7 +2,7 @@
 //! a length, and the archive keeps none of them. The calls ask nothing of what the tables hold.
 
 use crate::cells::{FORM_BYTES, FORM_CELLS};
-use crate::tables::WAITS;
+use crate::tables::{Change, WAITS};
 
 /// What a call answers: 0, or the number of its refusal with its place; of a run its ending and its count.
 #[repr(C)]
@@ -56,7 +56,7 @@ extern "C" {
         waits_length: usize,
         state: *mut u32,
         state_length: usize,
-        changes: *mut u32,
+        changes: *mut Change,
         changes_length: usize,
         bound: u64,
     ) -> Outcome;
@@ -150,7 +150,7 @@ pub fn run(
     plan: &[u32],
     waits: &[u8],
     state: &mut [u32],
-    changes: &mut [u32],
+    changes: &mut [Change],
     bound: u64,
 ) -> Outcome {
     unsafe {

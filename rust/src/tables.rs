@@ -7,12 +7,22 @@ pub const PLAN: usize = 1_640;
 pub const WAITS: usize = 1_024;
 pub const TEXTS: usize = 65_536;
 pub const STATE: usize = 2_952;
-/// Four cells for each of 1,024 rows.
-pub const CHANGES: usize = 4_096;
+/// Rows of the Changes table.
+pub const CHANGES: usize = 1_024;
 
 /// The cells of the state that are no component's.
 pub const FLAG: usize = 1;
 pub const TIME: usize = 2;
+
+/// A row of the Changes table: its component, its property, and the tag and number of its new value. The default is blank.
+#[repr(C)]
+#[derive(Clone, Copy, Debug, Default, PartialEq, Eq)]
+pub struct Change {
+    pub component: u32,
+    pub property: u32,
+    pub tag: u32,
+    pub number: u32,
+}
 
 /// A guideline and its state. Blank tables hold an empty guideline.
 #[derive(Clone, Debug)]
@@ -23,7 +33,7 @@ pub struct Tables {
     pub waits: Box<[u8; WAITS]>,
     pub texts: Box<[u8]>,
     pub state: Box<[u32]>,
-    pub changes: Box<[u32]>,
+    pub changes: Box<[Change]>,
 }
 
 impl Tables {
@@ -35,7 +45,7 @@ impl Tables {
             waits: Box::new([0; WAITS]),
             texts: vec![0; TEXTS].into_boxed_slice(),
             state: cells(STATE),
-            changes: cells(CHANGES),
+            changes: vec![Change::default(); CHANGES].into_boxed_slice(),
         }
     }
 }

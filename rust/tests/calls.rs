@@ -1,6 +1,6 @@
 //! The public calls through this crate, on guidelines whose answers were worked out by hand.
 
-use schotterei::{property, Ending, Guideline, Reason, Refusal, Row, Scalar, State, Value};
+use schotterei::{property, Change, Ending, Guideline, Reason, Refusal, Row, Scalar, State, Value};
 
 const THREE_PLOTS: &[u8] = include_bytes!("../../examples/guidelines/three_plots.pf");
 
@@ -58,7 +58,7 @@ fn refused_calls_change_nothing() {
     assert_eq!(guideline.set_time(1 << 32), refused(Reason::Limit));
     assert_eq!(guideline.trigger(&[b'x'; 49]), refused(Reason::Limit));
     assert_eq!(guideline.run(257).map(|_| ()), refused(Reason::Limit));
-    assert_eq!(guideline.run_with(256, &mut [0; 4_095]).map(|_| ()), refused(Reason::Limit));
+    assert_eq!(guideline.run_with(256, &mut [Change::default(); 1_023]).map(|_| ()), refused(Reason::Limit));
     assert_eq!(guideline.rows().expect("it is loaded").collect::<Vec<_>>(), before);
 }
 
@@ -105,9 +105,9 @@ fn a_copy_goes_its_own_way() {
 
 #[test]
 fn the_changes_table_is_blank_afterwards() {
-    let mut changes = vec![7; 8_192];
+    let mut changes = vec![Change { component: 7, property: 7, tag: 7, number: 7 }; 2_048];
     three_plots().run_with(256, &mut changes).expect("it runs");
-    assert!(changes.iter().all(|cell| *cell == 0));
+    assert!(changes.iter().all(|row| *row == Change::default()));
 }
 
 #[test]

@@ -4,11 +4,14 @@ use mathlib.Core.Path.{_≡_, sym, subst, _∙_}
 use mathlib.Core.Bool.{Bool}
 use mathlib.Core.List.{List}
 use lib.IntN.{ℤ}
+use lib.ListN.{length}
 use Rattle.paper_calls.specs.Calls as Calls
 use Calls.{Reply, done, ran, row, refuses, run, set-engine-time, confirm-task, add-data-value, send-trigger, Leaves}
 use Rattle.paper_calls.specs.Numbers.{ending-number}
 use Rattle.replying.specs.Replying.{Replies}
 use Rattle.value_given.specs.Given.{given}
+use Rattle.change_rows.specs.declared.Row.{Row}
+use Rattle.change_rows.specs.Blank.{blank}
 use Rattle.runs.specs.declared.Ran.{Ran}
 use Rattle.runs.specs.Run as runs
 use Rattle.exports.specs.declared.Outcome.{Outcome}
@@ -65,15 +68,15 @@ Adds D t n v b f s b′ s′ = Told (λ (r : Reply). (x : List ℕ) (w : List (L
 abbrev pub Triggers : List ℕ → List ℕ → List ℕ → List ℕ → List ℕ → Outcome → Type 0
 Triggers u b f s s′ = Told (λ (r : Reply). (x : List ℕ) (w : List (List Bool)) → Replies (send-trigger u) x b f w s b s′ r)
 
--- o the lent cells before, o′ after
-abbrev pub Runs : ℕ → List ℕ → List ℕ → List ℕ → List (List Bool) → List ℕ → List ℕ → List ℕ → List ℕ → List ℕ → Outcome → Type 0
-Runs bound x b f w s b′ s′ o o′ = Told (λ (r : Reply). Replies (run bound (runs.rows-in o)) x b f w s b′ s′ r × Leaves 0 r o o′)
+-- o the lent rows before, o′ after
+abbrev pub Runs : ℕ → List ℕ → List ℕ → List ℕ → List (List Bool) → List ℕ → List ℕ → List ℕ → List Row → List Row → Outcome → Type 0
+Runs bound x b f w s b′ s′ o o′ = Told (λ (r : Reply). Replies (run bound (length o)) x b f w s b′ s′ r × Leaves blank r o o′)
 
 -- ---- what the code finds out
 
-pub runs-told : (bound : ℕ) (x b f : List ℕ) (w v : List (List Bool)) (s b′ s′ o o′ : List ℕ) (r : Ran) (a : Outcome) → w ≡ v → runs.Runs bound x b f w s b′ s′ o o′ r → Tells (runs.published r) a → Runs bound x b f v s b′ s′ o o′ a
+pub runs-told : (bound : ℕ) (x b f : List ℕ) (w v : List (List Bool)) (s b′ s′ : List ℕ) (o o′ : List Row) (r : Ran) (a : Outcome) → w ≡ v → runs.Runs bound x b f w s b′ s′ o o′ r → Tells (runs.published r) a → Runs bound x b f v s b′ s′ o o′ a
 runs-told bound x b f w v s b′ s′ o o′ r a e h t =
-    record { reply = runs.published r; tells = t; holds = (subst (λ (y : List (List Bool)). Replies (run bound (runs.rows-in o)) x b f y s b′ s′ (runs.published r)) e (h .replies), h .leaves) }
+    record { reply = runs.published r; tells = t; holds = (subst (λ (y : List (List Bool)). Replies (run bound (length o)) x b f y s b′ s′ (runs.published r)) e (h .replies), h .leaves) }
 
 -- ---- one outcome: the numbers of a reply are its own
 

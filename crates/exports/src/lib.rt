@@ -1,5 +1,6 @@
 // What C and Rust link: the public calls over slices of numbers. Who waits for whom is 1,024 bytes, 1 for a mark.
 // The names begin with the library's, since a program has one space of names for all that it links.
+use change_rows::Row;
 use replying::Reply;
 use running::Ending;
 use runs::Ran;
@@ -92,7 +93,7 @@ pub extern "C" fn schotterei_run(
     plan: &[u32],
     waits: &[u8],
     state: &mut [u32],
-    changes: &mut [u32],
+    changes: &mut [Row],
     bound: u64,
 ) -> Outcome
     ensures { λ r. ⌜ Runs bound (now (parts .entry)) (now (texts .entry)) (now (plan .entry)) (squareOf (now (waits .entry))) (now (state .entry)) (now (texts .exit)) (now (state .exit)) (now (changes .entry)) (now (changes .exit)) r ⌝ }

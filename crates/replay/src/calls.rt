@@ -12,13 +12,8 @@ use transcript::refused_line;
 use transcript::replied;
 use transcript::shown;
 
-// The most rows that a script lends, and their cells.
+// The most rows that a script lends.
 const ROWS_LENT: u64 = 8_192;
-
-const CELLS_LENT: usize = 32_768;
-
-// A cell of a row that is not blank.
-const HELD: u32 = 7;
 
 // The place behind a line, and that behind its answer in the buffer.
 pub struct Answered {
@@ -68,24 +63,7 @@ fn ran(r: Ran, out: &mut [u8], o: usize) -> usize {
     }
 }
 
-// Runs with the first cells of a Changes table.
-fn run_first(
-    parts: &[u32],
-    texts: &mut [u8],
-    plan: &[u32],
-    waits: [[bool; 32]; 32],
-    state: &mut [u32],
-    changes: &mut [u32],
-    n: usize,
-    bound: u64,
-) -> Ran {
-    if changes.len() < n {
-        return Ran::Refused(6);
-    }
-    schotterei::run(parts, texts, plan, waits, state, &mut changes[..n], bound)
-}
-
-// Runs with so many rows that are lent, which hold something.
+// Runs with so many rows that are lent.
 fn run(
     parts: &[u32],
     texts: &mut [u8],
@@ -98,17 +76,7 @@ fn run(
     if ROWS_LENT < lent {
         return Ran::Refused(6);
     }
-    let mut changes = [HELD; CELLS_LENT];
-    run_first(
-        parts,
-        texts,
-        plan,
-        waits,
-        state,
-        &mut changes,
-        lent as usize * 4,
-        bound,
-    )
+    schotterei::run_alone(parts, texts, plan, waits, state, lent as usize, bound)
 }
 
 // Sends the first n bytes.

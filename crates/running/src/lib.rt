@@ -1,14 +1,21 @@
-// 8.3.2, RunEngine, with document 01's bound: review all; quiet, bounded, or enact and count; an exception stops.
+// 8.3.2, RunEngine, with document 01's bound, turn by turn: review all; quiet, bounded, or enact and count; an exception stops.
+// The rows that are asked for are numbers here; who runs the turns puts them into the lent Changes table and takes them back.
+use change_rows::Asked;
 use state::Header;
 ghost use mathlib.Core.Path.{_≡_};
-ghost use lib.ListN.{length, replicate};
-ghost use Rattle.holding.specs.Elsewhere.{Elsewhere};
-ghost use Rattle.running.specs.Run.{Ran};
+ghost use mathlib.Core.Bool.{false};
+ghost use Prim.Native.Nat.{_+_, _<_, _≤_};
+ghost use Rattle.running.specs.Run.{AskedNow, Turned, made, Decided, Nexts};
+
+// Rows that a cycle asks for at most have so many numbers.
+const CELLS: usize = 2_304;
 
 pub struct Ending {}
 
 // How a run ended.
 impl Ending {
+    pub const NONE: u32 = 0;
+
     pub const QUIET: u32 = 1;
 
     pub const BOUNDED: u32 = 2;
@@ -16,65 +23,93 @@ impl Ending {
     pub const EXCEPTION: u32 = 3;
 }
 
-// How a run ended, and the number of cycles that it enacted.
-pub struct Report {
+// Where a run stands: whether it goes on with the rows that are asked for, or how it ended; the number of cycles that it enacted; and how many rows are lent.
+pub struct Turn {
+    pub going: bool,
     pub ending: u32,
     pub cycles: u32,
+    pub lent: usize,
+    pub asked: Asked,
 }
 
-fn ended(ending: u32, cycles: u32) -> Report
-    ensures { λ r. ⌜ (r .ending ≡ ending) × (r .cycles ≡ cycles) ⌝ }
+// The rows that a cycle asks for.
+fn ask(x: &[u32], b: &[u8], f: &[u32], w: [[bool; 32]; 32], s: &[u32]) -> Asked
+    ensures { λ r. ⌜ AskedNow (now (x .entry)) (now (b .entry)) (now (f .entry)) w (now (s .entry)) (r .cells) (r .n) ⌝ }
+    ensures few { λ r. ⌜ r .n ≤ 576 ⌝ }
 {
-    Report {
+    let mut cells = [0u32; CELLS];
+    let m = asking::ask(x, b, f, w, s, &mut cells);
+    let n = changes::bounded(&cells, m);
+    Asked { n: n, cells: cells }
+}
+
+fn ended(ending: u32, cycles: u32, lent: usize, asked: Asked) -> Turn
+    ensures { λ r. ⌜ r ≡ made false ending cycles lent asked ⌝ }
+{
+    Turn {
+        going: false,
         ending: ending,
         cycles: cycles,
+        lent: lent,
+        asked: asked,
     }
 }
 
-// Cycles, until none asks for a row, the bound is reached, or the flag is set.
-fn repeat(
+// After so many cycles: quiet if no row is asked for, bounded if there are as many as may be, else it goes on.
+fn decide(asked: Asked, cycles: u32, lent: usize, bound: u64) -> Turn
+    ensures { λ r. ⌜ Decided bound cycles lent asked r ⌝ }
+{
+    if asked.n == 0 {
+        return ended(Ending::QUIET, cycles, lent, asked);
+    }
+    if bound <= cycles as u64 {
+        return ended(Ending::BOUNDED, cycles, lent, asked);
+    }
+    Turn {
+        going: true,
+        ending: Ending::NONE,
+        cycles: cycles,
+        lent: lent,
+        asked: asked,
+    }
+}
+
+// The first turn. `x` are the parts, `b` the text bytes, `f` the plan, `w` who waits for whom, `s` the state.
+pub fn first(
+    x: &[u32],
+    b: &[u8],
+    f: &[u32],
+    w: [[bool; 32]; 32],
+    s: &[u32],
+    lent: usize,
+    bound: u64,
+) -> Turn
+    ensures { λ r. ⌜ Turned bound lent (now (x .entry)) (now (b .entry)) (now (f .entry)) w (now (s .entry)) (now (b .entry)) (now (s .entry)) r ⌝ }
+{
+    let a = ask(x, b, f, w, s);
+    decide(a, 0, lent, bound)
+}
+
+// The next turn: the rows are enacted and counted; an exception stops, else it is decided anew.
+pub fn next(
     x: &[u32],
     b: &mut [u8],
     f: &[u32],
     w: [[bool; 32]; 32],
     s: &mut [u32],
-    out: &mut [u32],
-    bound: u32,
-) -> Report
-    ensures { λ r. ⌜ Ran (now (x .entry)) (now (b .entry)) (now (b .exit)) (now (f .entry)) w (now (s .entry)) (now (s .exit)) (now (out .entry)) bound r ⌝ }
-    ensures elsewhere { λ r. ⌜ Elsewhere (now (b .entry)) (now (s .entry)) (now (b .exit)) (now (s .exit)) ⌝ }
+    asked: Asked,
+    turn: Turn,
+    bound: u64,
+) -> Turn
+    requires { ⌜ turn .cycles < 256 ⌝ }
+    ensures { λ r. ⌜ Nexts bound (turn .lent) (now (x .entry)) (now (f .entry)) w (now (b .entry)) (now (s .entry)) (asked .cells) (asked .n) (turn .cycles) (now (b .exit)) (now (s .exit)) r × (r .cycles ≡ turn .cycles + 1) ⌝ }
 {
-    let mut k: u32 = 0;
-    while k < bound {
-        if !steps::step(x, b, f, w, s, out) {
-            return ended(Ending::QUIET, k);
-        }
-        k += 1;
-        if blocks::cell(s, Header::FLAG) != 0 {
-            return ended(Ending::EXCEPTION, k);
-        }
+    let cells = asked.cells;
+    cycles::enact(x, b, f, s, &cells, asked.n);
+    let k = turn.cycles + 1;
+    if blocks::cell(s, Header::FLAG) != 0 {
+        return ended(Ending::EXCEPTION, k, turn.lent, asked);
     }
-    if asking::ask(x, b, f, w, s, out) == 0 {
-        return ended(Ending::QUIET, k);
-    }
-    ended(Ending::BOUNDED, k)
-}
-
-// A run. `x` are the parts, `b` the text bytes, `f` the plan, `w` who waits for whom, `s` the state, `out` the lent Changes table, which is blank afterwards.
-pub fn run(
-    x: &[u32],
-    b: &mut [u8],
-    f: &[u32],
-    w: [[bool; 32]; 32],
-    s: &mut [u32],
-    out: &mut [u32],
-    bound: u32,
-) -> Report
-    ensures { λ r. ⌜ Ran (now (x .entry)) (now (b .entry)) (now (b .exit)) (now (f .entry)) w (now (s .entry)) (now (s .exit)) (now (out .entry)) bound r ⌝ }
-    ensures elsewhere { λ r. ⌜ Elsewhere (now (b .entry)) (now (s .entry)) (now (b .exit)) (now (s .exit)) ⌝ }
-    ensures blank { λ r. ⌜ now (out .exit) ≡ replicate (length (now (out .entry))) 0 ⌝ }
-{
-    let r = repeat(x, b, f, w, s, out, bound);
-    blank::clear(out);
-    r
+    let a = ask(x, b, f, w, s);
+    decide(a, k, turn.lent, bound)
 }

@@ -1,9 +1,12 @@
-// 8.3.2, RunEngine, as a call: document 01's tests in their order, and then the run.
-use changes::Row;
+// 8.3.2, RunEngine, as a call: document 01's tests in their order, and then the run, turn by turn over the lent Changes table.
+use change_rows::Asked;
+use change_rows::Row;
 use running::Ending;
-use running::Report;
+use running::Turn;
 ghost use mathlib.Core.Path.{_≡_};
-ghost use Rattle.runs.specs.Run.{reported, published, Runs};
+ghost use mathlib.Core.Bool.{false};
+ghost use Rattle.runs.specs.Run.{reported, published, Runs, RunsAlone};
+ghost use Rattle.runs.specs.Claims.{Claims};
 
 // How a run ended, with the number of cycles that it enacted; or the number of its refusal.
 pub enum Ran {
@@ -13,38 +16,109 @@ pub enum Ran {
     Refused(u8),
 }
 
-fn answer(r: Report) -> Ran
-    ensures { λ a. ⌜ published a ≡ reported (r .ending) (r .cycles) ⌝ }
-{
-    if r.ending == Ending::QUIET {
-        return Ran::Quiet(r.cycles);
-    }
-    if r.ending == Ending::BOUNDED {
-        return Ran::Bounded(r.cycles);
-    }
-    Ran::Exception(r.cycles)
-}
+// The ending of a run that is refused with 6; any other refusal is 7.
+const SIX: u32 = 6;
 
-// Runs the engine: refused with 7, or with 6 where the bound is beyond its limit or fewer than 1,024 rows of four cells are lent.
-// `x` are the parts, `b` the text bytes, `f` the plan, `w` who waits for whom, `s` the state.
-pub fn run(
-    x: &[u32],
-    b: &mut [u8],
-    f: &[u32],
-    w: [[bool; 32]; 32],
-    s: &mut [u32],
-    changes: &mut [u32],
-    bound: u64,
-) -> Ran
-    ensures { λ r. ⌜ Runs bound (now (x .entry)) (now (b .entry)) (now (f .entry)) w (now (s .entry)) (now (b .exit)) (now (s .exit)) (now (changes .entry)) (now (changes .exit)) r ⌝ }
+const SEVEN: u32 = 7;
+
+fn answer(turn: Turn) -> Ran
+    ensures { λ a. ⌜ published a ≡ reported (turn .ending) (turn .cycles) ⌝ }
 {
-    if replying::ready(s) {
-        if bound <= limits::Run::CYCLES as u64 {
-            if limits::Changes::ROWS <= changes.len() / Row::CELLS {
-                return answer(running::run(x, b, f, w, s, changes, bound as u32));
-            }
-        }
+    if turn.ending == Ending::QUIET {
+        return Ran::Quiet(turn.cycles);
+    }
+    if turn.ending == Ending::BOUNDED {
+        return Ran::Bounded(turn.cycles);
+    }
+    if turn.ending == Ending::EXCEPTION {
+        return Ran::Exception(turn.cycles);
+    }
+    if turn.ending == SIX {
         return Ran::Refused(6);
     }
     Ran::Refused(7)
+}
+
+// A run that does not begin: no row of the lent table is touched.
+fn refused(ending: u32) -> Turn
+    ensures { λ r. ⌜ (r .going ≡ false) × (r .ending ≡ ending) × (r .lent ≡ 0) ⌝ }
+{
+    let none = Asked {
+        n: 0,
+        cells: [0; 2304],
+    };
+    Turn {
+        going: false,
+        ending: ending,
+        cycles: 0,
+        lent: 0,
+        asked: none,
+    }
+}
+
+// The first turn: refused with 7, or with 6 where the bound is beyond its limit or fewer than 1,024 rows are lent.
+fn begin(
+    parts: &[u32],
+    texts: &[u8],
+    plan: &[u32],
+    waits: [[bool; 32]; 32],
+    state: &[u32],
+    lent: usize,
+    bound: u64,
+) -> Turn
+    ensures { λ r. ⌜ Claims bound (now (parts .entry)) (now (texts .entry)) (now (plan .entry)) waits (now (state .entry)) lent (now (texts .entry)) (now (state .entry)) r ⌝ }
+{
+    if replying::ready(state) {
+        if bound <= limits::Run::CYCLES as u64 {
+            if limits::Changes::ROWS <= lent {
+                return running::first(parts, texts, plan, waits, state, lent, bound);
+            }
+            return refused(SIX);
+        }
+        return refused(SIX);
+    }
+    refused(SEVEN)
+}
+
+// Runs the engine until a cycle asks for nothing, `bound` cycles are enacted, or the Exception flag is set. In every turn the rows that are
+// asked for are appended to `changes`, the lent Changes table, and taken back to be enacted; every row is blank after an accepted run.
+pub fn run(
+    parts: &[u32],
+    texts: &mut [u8],
+    plan: &[u32],
+    waits: [[bool; 32]; 32],
+    state: &mut [u32],
+    changes: &mut [Row],
+    bound: u64,
+) -> Ran
+    ensures { λ r. ⌜ Runs bound (now (parts .entry)) (now (texts .entry)) (now (plan .entry)) waits (now (state .entry)) (now (texts .exit)) (now (state .exit)) (now (changes .entry)) (now (changes .exit)) r ⌝ }
+{
+    let mut turn = begin(parts, texts, plan, waits, state, changes.len(), bound);
+    while turn.going {
+        change_rows::append(changes, turn.asked);
+        let back = change_rows::taken(changes, turn.asked.n);
+        turn = running::next(parts, texts, plan, waits, state, back, turn, bound);
+    }
+    change_rows::clear(changes, turn.lent);
+    answer(turn)
+}
+
+// The same with a Changes table of its own, as if `lent` rows were lent: for callers that have no use for the rows.
+pub fn run_alone(
+    parts: &[u32],
+    texts: &mut [u8],
+    plan: &[u32],
+    waits: [[bool; 32]; 32],
+    state: &mut [u32],
+    lent: usize,
+    bound: u64,
+) -> Ran
+    ensures { λ r. ⌜ RunsAlone bound lent (now (parts .entry)) (now (texts .entry)) (now (plan .entry)) waits (now (state .entry)) (now (texts .exit)) (now (state .exit)) r ⌝ }
+{
+    let mut turn = begin(parts, texts, plan, waits, state, lent, bound);
+    while turn.going {
+        let asked = turn.asked;
+        turn = running::next(parts, texts, plan, waits, state, asked, turn, bound);
+    }
+    answer(turn)
 }

@@ -2,13 +2,15 @@
 // No call asks anything of its arguments: whatever the tables hold, it is safe, and ends.
 use replying::Reply;
 use row_shown::Row;
-use runs::Ran;
+
+// 8.3.2: runs the engine over a lent Changes table, a slice of `change_rows::Row`; or with a table of its own.
+pub use runs::run;
+pub use runs::run_alone;
 ghost use Rattle.adding.specs.Add.{Adds};
 ghost use Rattle.clock.specs.Time.{SetsTime};
 ghost use Rattle.confirming.specs.Confirm.{Confirms};
 ghost use Rattle.load.specs.Loads.{lent, Replied};
 ghost use Rattle.row_read.specs.Read.{ReadsRow};
-ghost use Rattle.runs.specs.Run.{Runs};
 ghost use Rattle.triggering.specs.Trigger.{Triggers};
 
 // 8.3.1: loads a guideline. All tables are blank where it is refused.
@@ -24,22 +26,6 @@ pub fn load(
     ensures { λ r. ⌜ Replied (now (text .entry)) (lent (now (rows .entry)) (now (parts .entry)) (now (plan .entry)) (now (waits .entry)) (now (texts .entry)) (now (state .entry))) (lent (now (rows .exit)) (now (parts .exit)) (now (plan .exit)) (now (waits .exit)) (now (texts .exit)) (now (state .exit))) r ⌝ }
 {
     load::load(text, rows, parts, plan, waits, texts, state)
-}
-
-// 8.3.2: runs the engine until a cycle asks for nothing, `bound` cycles are enacted, or the Exception flag is set.
-// `changes` is the Changes table, four cells a row, which is blank afterwards.
-pub fn run(
-    parts: &[u32],
-    texts: &mut [u8],
-    plan: &[u32],
-    waits: [[bool; 32]; 32],
-    state: &mut [u32],
-    changes: &mut [u32],
-    bound: u64,
-) -> Ran
-    ensures { λ r. ⌜ Runs bound (now (parts .entry)) (now (texts .entry)) (now (plan .entry)) waits (now (state .entry)) (now (texts .exit)) (now (state .exit)) (now (changes .entry)) (now (changes .exit)) r ⌝ }
-{
-    runs::run(parts, texts, plan, waits, state, changes, bound)
 }
 
 // 8.3.3: sets the engine time.

@@ -19,9 +19,6 @@ use series::Ended;
 use state::Plan;
 use state::cell;
 
-// The cells of the Changes table, four a row.
-const CHANGES: usize = 4 * limits::Changes::ROWS;
-
 // What is the same for all lines: the number of columns, the separator, whether actions are confirmed.
 pub struct Season {
     pub many: usize,
@@ -138,7 +135,6 @@ fn in_tables(
     line: u64,
     texts: &mut [u8],
     state: &mut [u32],
-    changes: &mut [u32],
     out: &mut [u8],
     o: usize,
 ) -> usize {
@@ -152,7 +148,6 @@ fn in_tables(
         plan,
         waits,
         state,
-        changes,
         columns,
         s.many,
         kept,
@@ -174,7 +169,6 @@ fn in_copies(
     line: u64,
     texts_of_line: &mut [u8],
     state_of_line: &mut [u32],
-    changes: &mut [u32],
     out: &mut [u8],
     o: usize,
 ) -> usize {
@@ -191,7 +185,6 @@ fn in_copies(
         line,
         texts_of_line,
         state_of_line,
-        changes,
         out,
         o,
     )
@@ -212,7 +205,6 @@ pub fn answer(
 ) -> usize {
     let mut texts_of_line = io::large_buffer();
     let mut state_of_line = [0u32; Cells::STATE];
-    let mut changes = [0u32; CHANGES];
     let p = labels(columns, s.many, kept, ends, s.separator, out, o);
     in_copies(
         tables,
@@ -225,7 +217,6 @@ pub fn answer(
         line,
         &mut texts_of_line,
         &mut state_of_line,
-        &mut changes,
         out,
         p,
     )

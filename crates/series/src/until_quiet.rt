@@ -34,16 +34,15 @@ fn run_once(
     plan: &[u32],
     waits: [[bool; 32]; 32],
     state: &mut [u32],
-    changes: &mut [u32],
     before: usize,
 ) -> Ended {
-    match schotterei::run(
+    match schotterei::run_alone(
         parts,
         texts,
         plan,
         waits,
         state,
-        changes,
+        limits::Changes::ROWS,
         limits::Run::CYCLES as u64,
     ) {
         Ran::Quiet(k) => Ended {
@@ -126,14 +125,13 @@ pub fn run(
     plan: &[u32],
     waits: [[bool; 32]; 32],
     state: &mut [u32],
-    changes: &mut [u32],
     columns: &[u32],
     many: usize,
     kept: &[u8],
     ends: &[usize],
     confirms: bool,
 ) -> Ended {
-    let mut e = run_once(parts, texts, plan, waits, state, changes, 0);
+    let mut e = run_once(parts, texts, plan, waits, state, 0);
     let mut left = RUNS;
     while 0 < left {
         if !goes_on(
@@ -149,7 +147,7 @@ pub fn run(
         ) {
             return e;
         }
-        e = run_once(parts, texts, plan, waits, state, changes, e.cycles);
+        e = run_once(parts, texts, plan, waits, state, e.cycles);
         left -= 1;
     }
     Ended {

@@ -8,7 +8,7 @@ use sentences::write;
 ghost use Prim.Native.Nat.{_≤_};
 
 // The cells of a Changes table.
-pub const CHANGES: usize = Changes::ROWS * Row::CELLS;
+const CHANGES: usize = Changes::ROWS * Row::CELLS;
 
 // How a run ended: quiet, or with more to be done; by an exception; or the number of its refusal.
 pub enum Ended {
@@ -93,8 +93,7 @@ pub fn enact(
     let m = asking::ask(parts, texts, plan, waits, state, &mut out);
     assigned::gather(parts, texts, plan, state, &out, m, &mut news);
     done::hush(&mut out, m, state);
-    let mut changes = [0u32; CHANGES];
-    let r = schotterei::run(parts, texts, plan, waits, state, &mut changes, 1);
+    let r = schotterei::run_alone(parts, texts, plan, waits, state, Changes::ROWS, 1);
     let k = enacted(r);
     if 0 < k {
         tell(rows, texts, plan, &out, m, &news, n);

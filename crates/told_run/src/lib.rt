@@ -5,6 +5,7 @@ mod cycle;
 mod done;
 
 use cycle::Ended;
+use limits::Changes;
 use limits::Run;
 use sentences::write;
 ghost use Prim.Native.Nat.{_≤_};
@@ -62,8 +63,7 @@ fn whole(
     state: &mut [u32],
     bound: u64,
 ) -> Ended {
-    let mut changes = [0u32; cycle::CHANGES];
-    cycle::ending(schotterei::run(parts, texts, plan, waits, state, &mut changes, bound))
+    cycle::ending(schotterei::run_alone(parts, texts, plan, waits, state, Changes::ROWS, bound))
 }
 
 // Cycle by cycle, up to the bound.

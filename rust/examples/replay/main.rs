@@ -7,13 +7,13 @@ mod written;
 use std::error::Error;
 use std::io::{self, Read, Write};
 
-use schotterei::{Guideline, Refusal};
+use schotterei::{Change, Guideline, Refusal};
 
 use script::Call;
 
-/// The cells of a row of the Changes table, and what is in them before a run.
-const ROW: usize = 4;
-const GARBAGE: u32 = 0xdead_beef;
+/// What is in a row of the Changes table before a run.
+const FILLED: u32 = 0xdead_beef;
+const GARBAGE: Change = Change { component: FILLED, property: FILLED, tag: FILLED, number: FILLED };
 
 fn main() -> Result<(), Box<dyn Error>> {
     let mut batch = Vec::new();
@@ -50,7 +50,7 @@ fn answer(guideline: &mut Guideline, call: &Call) -> Result<String, Refusal> {
     match call {
         Call::Load(text) => guideline.reload(text).map(|()| "loaded".to_string()),
         Call::Run(bound, lent) => {
-            let mut changes = vec![GARBAGE; ROW * lent];
+            let mut changes = vec![GARBAGE; *lent];
             guideline.run_with(*bound, &mut changes).map(written::run)
         }
         Call::Time(seconds) => guideline.set_time(*seconds).map(done),

@@ -6,11 +6,11 @@ use Rattle.series.proofs.until_quiet.run.Statement.{statement}
 use Rattle.series.proofs.until_quiet.run.Tie as tie
 
 abbrev Inv-loop : tie.InvT-loop
-Inv-loop parts texts₀ plan waits state₀ changes₀ columns many kept ends confirms e₀ left₀ texts state changes e left =
-    (length texts ≡ length texts₀) × (length state ≡ length state₀) × (length changes ≡ length changes₀)
+Inv-loop parts texts₀ plan waits state₀ columns many kept ends confirms e₀ left₀ texts state e left =
+    (length texts ≡ length texts₀) × (length state ≡ length state₀)
 
 abbrev μ-loop : tie.MeasureT-loop
-μ-loop parts texts₀ plan waits state₀ changes₀ columns many kept ends confirms e₀ left₀ texts state changes e left = left
+μ-loop parts texts₀ plan waits state₀ columns many kept ends confirms e₀ left₀ texts state e left = left
 
 pub run-spec : {M : Type 1} → statement M
 run-spec =
@@ -18,4 +18,4 @@ run-spec =
     (tie.spec
     Inv-loop
     μ-loop
-    (λ c κs. search needs) (λ c. search needs) (λ c κs. search needs) (λ c. search needs) (λ c. search needs) (λ c. search needs) (λ c. search needs) (λ c κs. search needs) (λ c. search needs) (λ c. search needs) (λ c. search needs) (λ c. search needs) (λ c. search needs) (λ c. search needs) (λ c. search needs))
+    (λ c κs. search needs) (λ c. search needs) (λ c κs. search needs) (λ c. search needs) (λ c. search needs) (λ c. search needs) (λ c κs. search needs) (λ c. search needs) (λ c. search needs) (λ c. search needs) (λ c. search needs) (λ c. search needs) (λ c. search needs))
