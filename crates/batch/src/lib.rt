@@ -1,4 +1,6 @@
 // A batch of texts on standard input, each as its length in four bytes, big-endian, and its bytes; for comparison with the second program.
+ghost use mathlib.Core.Path.{_≡_};
+ghost use mathlib.Core.Bool.{false};
 ghost use Prim.Native.Nat.{_<_};
 ghost use lib.ListN.{length};
 ghost use Rattle.batch.specs.Held.{Held};
@@ -55,7 +57,9 @@ pub fn next_text(text: &mut [u8]) -> Next
 }
 
 // Says that a text could not be read, and that no other is.
-pub fn unread() -> bool {
+pub fn unread() -> bool
+    ensures { λ r. ⌜ r ≡ false ⌝ }
+{
     io::write_all(
         STDERR_FILENO,
         b"a text of the batch is cut off, or longer than the buffer\n",

@@ -11,6 +11,7 @@ use limits::Assignments;
 use limits::DataItems;
 use sentences::write;
 use state::Plan;
+ghost use Rattle.told_run.specs.Told.{NewValues};
 
 // The scratch for the new values of all data items: cells, and bytes.
 pub const NEWS: usize = Slot::CELLS * DataItems::LIMIT;
@@ -26,7 +27,9 @@ pub fn gather(
     out: &[u32],
     m: usize,
     news: &mut [u32],
-) {
+)
+    ensures { λ _. ⌜ NewValues (now (parts .entry)) (now (texts .entry)) (now (plan .entry)) (now (state .entry)) (now (out .entry)) m (now (news .entry)) (now (news .exit)) ⌝ }
+{
     let mut bytes = [0u8; TEXTS];
     gathering::gather(parts, texts, plan, state, out, m, news, &mut bytes);
 }

@@ -5,7 +5,9 @@ use changes::Row;
 use limits::Changes;
 use runs::Ran;
 use sentences::write;
+ghost use mathlib.Core.Path.{_≡_};
 ghost use Prim.Native.Nat.{_≤_};
+ghost use Rattle.told_run.specs.Told.{endingOf, overOf};
 
 // The cells of a Changes table.
 const CHANGES: usize = Changes::ROWS * Row::CELLS;
@@ -24,7 +26,9 @@ pub struct Cycle {
     pub enacted: u64,
 }
 
-pub fn ending(r: Ran) -> Ended {
+pub fn ending(r: Ran) -> Ended
+    ensures { λ e. ⌜ e ≡ endingOf r ⌝ }
+{
     match r {
         Ran::Quiet(_) => Ended::Quiet,
         Ran::Bounded(_) => Ended::More,
@@ -56,7 +60,9 @@ fn enacted(r: Ran) -> u64
 }
 
 // Whether a run is over before its bound.
-pub fn is_end(e: Ended) -> bool {
+pub fn is_end(e: Ended) -> bool
+    ensures { λ r. ⌜ r ≡ overOf e ⌝ }
+{
     match e {
         Ended::Quiet => true,
         Ended::More => false,

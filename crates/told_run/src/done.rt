@@ -7,6 +7,8 @@ use limits::Changes;
 use sentences::write;
 use state::Property;
 use state::Tag;
+ghost use mathlib.Core.Path.{_≡_};
+ghost use Rattle.told_run.specs.Told.{cellOf, componentOf};
 
 // The cells of a row.
 const COMPONENT: usize = 0;
@@ -23,7 +25,9 @@ pub struct Asked {
 }
 
 // The cell k of the i-th row.
-pub fn cell(out: &[u32], i: usize, k: usize) -> u32 {
+pub fn cell(out: &[u32], i: usize, k: usize) -> u32
+    ensures { λ r. ⌜ r ≡ cellOf (now (out .entry)) i k ⌝ }
+{
     if Changes::ROWS <= i {
         return 0;
     }
@@ -34,7 +38,9 @@ pub fn cell(out: &[u32], i: usize, k: usize) -> u32 {
 }
 
 // The number of the component of the i-th row.
-pub fn component(out: &[u32], i: usize) -> usize {
+pub fn component(out: &[u32], i: usize) -> usize
+    ensures { λ r. ⌜ r ≡ componentOf (now (out .entry)) i ⌝ }
+{
     (cell(out, i, COMPONENT) % Row::ITEM) as usize
 }
 

@@ -1,7 +1,10 @@
 // Lines from standard input: what a read returns is kept in a buffer, and what stands behind a newline stays for the next line.
 use libc::STDIN_FILENO;
+ghost use mathlib.Core.Path.{_≡_};
+ghost use mathlib.Core.Bool.{true, false};
 ghost use Prim.Native.Nat.{_≤_};
 ghost use lib.ListN.{length};
+ghost use Rattle.typed_lines.specs.Lines.{Newline, HasLine, LineHeld, Shifted, Dropped};
 
 pub struct Line {}
 
@@ -17,7 +20,9 @@ pub struct Held {
     pub ended: bool,
 }
 
-pub fn nothing() -> Held {
+pub fn nothing() -> Held
+    ensures { λ r. ⌜ (r .bytes ≡ 0) × (r .long ≡ false) × (r .ended ≡ false) ⌝ }
+{
     Held {
         bytes: 0,
         long: false,
@@ -36,7 +41,7 @@ fn more(buffer: &mut [u8], n: usize) -> usize
 
 // The place of the first newline of n bytes, or n.
 pub fn newline(buffer: &[u8], n: usize) -> usize
-    ensures { λ r. ⌜ r ≤ n ⌝ }
+    ensures { λ r. ⌜ Newline (now (buffer .entry)) n r ⌝ }
 {
     let mut i = 0usize;
     while i < n {
@@ -49,7 +54,9 @@ pub fn newline(buffer: &[u8], n: usize) -> usize
 }
 
 // Reads on, unless the buffer has a whole line: a line that fills it is too long, and its beginning goes.
-fn read_on(buffer: &mut [u8], h: Held) -> Held {
+fn read_on(buffer: &mut [u8], h: Held) -> Held
+    ensures { λ _. ⌜ length (now (buffer .exit)) ≡ length (now (buffer .entry)) ⌝ }
+{
     let n = h.bytes;
     if buffer.len() <= n {
         return Held {
@@ -67,15 +74,19 @@ fn read_on(buffer: &mut [u8], h: Held) -> Held {
 }
 
 // Whether the buffer has a line, or the last one, whose newline may be missing.
-fn is_line(buffer: &[u8], h: Held) -> bool {
+fn is_line(buffer: &[u8], h: Held) -> bool
+    ensures { λ r. ⌜ (r ≡ true → HasLine (now (buffer .entry)) h) × (HasLine (now (buffer .entry)) h → r ≡ true) ⌝ }
+{
     if h.ended {
         return true;
     }
     newline(buffer, h.bytes) < h.bytes
 }
 
-// Reads until there is a line, or the input has ended. A proved loop has to end, so it counts its turns down, from a number that no line uses up.
-pub fn next(buffer: &mut [u8], h: Held) -> Held {
+// Reads until there is a line, or the input has ended. A proved loop has to end, so it counts its turns down, from a number that no line uses up: it ends the input.
+pub fn next(buffer: &mut [u8], h: Held) -> Held
+    ensures { λ r. ⌜ LineHeld (now (buffer .entry)) h (now (buffer .exit)) r ⌝ }
+{
     let mut turns = u64::MAX;
     let mut now = h;
     while 0 < turns {
@@ -85,11 +96,17 @@ pub fn next(buffer: &mut [u8], h: Held) -> Held {
         now = read_on(buffer, now);
         turns -= 1;
     }
-    now
+    Held {
+        bytes: now.bytes,
+        long: now.long,
+        ended: true,
+    }
 }
 
 // Takes the line off that ends at a place: what stands behind its newline moves to the front.
-pub fn drop(buffer: &mut [u8], h: Held, end: usize) -> Held {
+pub fn drop(buffer: &mut [u8], h: Held, end: usize) -> Held
+    ensures { λ r. ⌜ Dropped (now (buffer .entry)) h end (now (buffer .exit)) r ⌝ }
+{
     let n = h.bytes;
     if n <= end {
         return Held {
@@ -108,14 +125,13 @@ pub fn drop(buffer: &mut [u8], h: Held, end: usize) -> Held {
 }
 
 // The bytes from one place up to another, to the front.
-fn shift(buffer: &mut [u8], from: usize, to: usize) {
+fn shift(buffer: &mut [u8], from: usize, to: usize)
+    ensures { λ _. ⌜ Shifted (now (buffer .entry)) from to (now (buffer .exit)) ⌝ }
+{
     let mut i = from;
     let mut k = 0usize;
     while i < to {
         if buffer.len() <= i {
-            return;
-        }
-        if buffer.len() <= k {
             return;
         }
         buffer[k] = buffer[i];
