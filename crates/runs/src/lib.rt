@@ -1,6 +1,7 @@
 // 8.3.2, RunEngine, as a call: document 01's tests in their order, and then the run, turn by turn over the lent Changes table.
 use change_rows::Asked;
 use change_rows::Row;
+use limits::Refusal;
 use running::Ending;
 use running::Turn;
 ghost use mathlib.Core.Path.{_≡_};
@@ -16,10 +17,10 @@ pub enum Ran {
     Refused(u8),
 }
 
-// The ending of a run that is refused with 6; any other refusal is 7.
-const SIX: u32 = 6;
+// The ending of a run that does not begin is the number of its refusal.
+const LIMIT: u32 = Refusal::LIMIT as u32;
 
-const SEVEN: u32 = 7;
+const UNREADY: u32 = Refusal::UNREADY as u32;
 
 fn answer(turn: Turn) -> Ran
     ensures { λ a. ⌜ published a ≡ reported (turn .ending) (turn .cycles) ⌝ }
@@ -33,10 +34,10 @@ fn answer(turn: Turn) -> Ran
     if turn.ending == Ending::EXCEPTION {
         return Ran::Exception(turn.cycles);
     }
-    if turn.ending == SIX {
-        return Ran::Refused(6);
+    if turn.ending == LIMIT {
+        return Ran::Refused(Refusal::LIMIT);
     }
-    Ran::Refused(7)
+    Ran::Refused(Refusal::UNREADY)
 }
 
 // A run that does not begin: no row of the lent table is touched.
@@ -73,11 +74,11 @@ fn begin(
             if limits::Changes::ROWS <= lent {
                 return running::first(parts, texts, plan, waits, state, lent, bound);
             }
-            return refused(SIX);
+            return refused(LIMIT);
         }
-        return refused(SIX);
+        return refused(LIMIT);
     }
-    refused(SEVEN)
+    refused(UNREADY)
 }
 
 // Runs the engine until a cycle asks for nothing, `bound` cycles are enacted, or the Exception flag is set. In every turn the rows that are
