@@ -6,7 +6,11 @@ use typed_value::Room;
 use typed_value::Slip;
 use typed_value::Typed;
 use typed_value::lexemes::is_word;
+ghost use mathlib.Core.Path.{_≡_};
+ghost use mathlib.Core.Bool.{false};
 ghost use Prim.Native.Nat.{_≤_};
+ghost use Rattle.field_values.specs.Reading as reading;
+ghost use Rattle.field_values.specs.Reading.{ReadBy, ReadField};
 
 pub struct Refusal {}
 
@@ -48,39 +52,51 @@ impl Declared {
 const TAG: u32 = 4;
 
 // Whether values of the type are texts (4.3).
-fn is_text(declared: u32) -> bool {
-    match declared {
-        Declared::TEXT | Declared::BOOLEAN => true,
-        _ => false,
+fn is_text(declared: u32) -> bool
+    ensures { λ r. ⌜ r ≡ reading.text-type declared ⌝ }
+{
+    if declared == Declared::TEXT {
+        return true;
     }
+    declared == Declared::BOOLEAN
 }
 
 // Whether they are numbers with digits behind the point, or lists of these.
-fn is_real(declared: u32) -> bool {
-    match declared {
-        Declared::DATETIME | Declared::DATE | Declared::TIME => true,
-        Declared::REAL | Declared::SETOF_REAL => true,
-        _ => false,
+fn is_real(declared: u32) -> bool
+    ensures { λ r. ⌜ r ≡ reading.real-type declared ⌝ }
+{
+    if declared < Declared::DATETIME {
+        return false;
     }
+    if declared < Declared::SETOF_TEXT {
+        return true;
+    }
+    declared == Declared::SETOF_REAL
 }
 
 // Whether they are lists.
-fn is_list(declared: u32) -> bool {
-    match declared {
-        Declared::SETOF_TEXT | Declared::SETOF_INTEGER | Declared::SETOF_REAL => true,
-        _ => false,
+fn is_list(declared: u32) -> bool
+    ensures { λ r. ⌜ r ≡ reading.list-type declared ⌝ }
+{
+    if declared < Declared::SETOF_TEXT {
+        return false;
     }
+    declared <= Declared::SETOF_REAL
 }
 
-fn limit_if(of_the_type: bool) -> u8 {
-    if of_the_type {
+fn limit_if(fitting: bool) -> u8
+    ensures { λ r. ⌜ r ≡ reading.limit-if fitting ⌝ }
+{
+    if fitting {
         return Refusal::LIMIT;
     }
     Refusal::TYPE
 }
 
 // The number of the refusal of what can't be read: beyond a limit, if it would be of the type, else not of the type.
-fn number_of(slip: Slip, declared: u32) -> u8 {
+fn number_of(slip: Slip, declared: u32) -> u8
+    ensures { λ r. ⌜ r ≡ reading.refusal-by slip declared ⌝ }
+{
     match slip {
         Slip::Decimals => limit_if(is_real(declared)),
         Slip::Many => limit_if(is_list(declared)),
@@ -112,7 +128,9 @@ fn put_number(numbers: &mut [i64], i: usize, x: i64) {
 }
 
 // The field as it stands is the text, but for the word unknown, whose cells are the blank ones.
-fn text(field: &[u8], tags: &mut [u32], numbers: &mut [i64], bytes: &mut [u8]) -> u8 {
+fn text(field: &[u8], tags: &mut [u32], numbers: &mut [i64], bytes: &mut [u8]) -> u8
+    ensures { λ r. ⌜ r ≡ 0 ⌝ }
+{
     if is_word(field, 0, field.len(), b"unknown") {
         return Refusal::NONE;
     }
@@ -124,13 +142,9 @@ fn text(field: &[u8], tags: &mut [u32], numbers: &mut [i64], bytes: &mut [u8]) -
 }
 
 // A number, a list, or unknown.
-fn typed(
-    declared: u32,
-    field: &[u8],
-    tags: &mut [u32],
-    numbers: &mut [i64],
-    bytes: &mut [u8],
-) -> u8 {
+fn typed(declared: u32, field: &[u8], tags: &mut [u32], numbers: &mut [i64], bytes: &mut [u8]) -> u8
+    ensures { λ r. ⌜ ReadBy false declared (now (field .entry)) r ⌝ }
+{
     match typed_value::read(field, 0, field.len(), tags, numbers, bytes) {
         Typed::Value => Refusal::NONE,
         Typed::Wrong(slip, _) => number_of(slip, declared),
@@ -144,7 +158,9 @@ pub fn read(
     tags: &mut [u32],
     numbers: &mut [i64],
     bytes: &mut [u8],
-) -> u8 {
+) -> u8
+    ensures { λ r. ⌜ ReadField declared (now (field .entry)) r ⌝ }
+{
     if is_text(declared) {
         return text(field, tags, numbers, bytes);
     }

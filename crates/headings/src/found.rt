@@ -5,7 +5,11 @@ use parts::names::letter;
 use parts::names::lower;
 use state::Plan;
 use state::cell;
+ghost use mathlib.Core.Path.{_≡_};
 ghost use Prim.Native.Nat.{_≤_};
+ghost use Rattle.paper_expressions.specs.Laws.Search.{alikeb};
+ghost use Rattle.parts.specs.Texts.{textAt};
+ghost use Rattle.headings.specs.Columns as columns;
 
 pub struct Column {}
 
@@ -24,7 +28,7 @@ impl Column {
 
 // How many data items there are.
 pub fn count(plan: &[u32]) -> usize
-    ensures { λ r. ⌜ r ≤ 64 ⌝ }
+    ensures { λ r. ⌜ (r ≡ columns.item-count (now (plan .entry))) × (r ≤ 64) ⌝ }
 {
     let n = cell(plan, Plan::ITEMS, 0);
     if n < DataItems::LIMIT {
@@ -34,7 +38,9 @@ pub fn count(plan: &[u32]) -> usize
 }
 
 // Whether the text with the handle `h` is the name.
-fn is_name(texts: &[u8], h: usize, name: &[u8]) -> bool {
+fn is_name(texts: &[u8], h: usize, name: &[u8]) -> bool
+    ensures { λ r. ⌜ r ≡ alikeb (textAt (now (texts .entry)) h) (now (name .entry)) ⌝ }
+{
     if h % HANDLE != name.len() {
         return false;
     }
@@ -50,7 +56,7 @@ fn is_name(texts: &[u8], h: usize, name: &[u8]) -> bool {
 
 // The data item with the name; the number of all, if none has it.
 fn named(plan: &[u32], texts: &[u8], name: &[u8]) -> usize
-    ensures { λ r. ⌜ r ≤ 64 ⌝ }
+    ensures { λ r. ⌜ (r ≡ columns.named (now (plan .entry)) (now (texts .entry)) (now (name .entry))) × (r ≤ 64) ⌝ }
 {
     let n = count(plan);
     let mut d = 0usize;
@@ -63,7 +69,9 @@ fn named(plan: &[u32], texts: &[u8], name: &[u8]) -> usize
     n
 }
 
-fn is_label(name: &[u8]) -> bool {
+fn is_label(name: &[u8]) -> bool
+    ensures { λ r. ⌜ r ≡ columns.is-label (now (name .entry)) ⌝ }
+{
     if name.len() == 0 {
         return false;
     }
@@ -71,7 +79,9 @@ fn is_label(name: &[u8]) -> bool {
 }
 
 // What a column with the name stands for.
-pub fn stands_for(plan: &[u32], texts: &[u8], name: &[u8]) -> u32 {
+pub fn stands_for(plan: &[u32], texts: &[u8], name: &[u8]) -> u32
+    ensures { λ r. ⌜ r ≡ columns.stands-for (now (plan .entry)) (now (texts .entry)) (now (name .entry)) ⌝ }
+{
     let d = named(plan, texts, name);
     if d < count(plan) {
         return d as u32 + 1;

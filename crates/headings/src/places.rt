@@ -5,6 +5,10 @@ use crate::nearness;
 use blocks::cell;
 use blocks::put_cell;
 use separated::field;
+ghost use mathlib.Core.Path.{_≡_};
+ghost use mathlib.Core.Bool.{_&&_};
+ghost use lib.ListN.{set};
+ghost use Rattle.headings.specs.Columns as places;
 
 fn head(i: usize, name: &[u8]) {
     aside::text(b"column ");
@@ -30,7 +34,9 @@ fn tell_twice(i: usize, name: &[u8], first: usize) {
 }
 
 // The first of the columns before `i` that stands for the data item; `i` if none does.
-fn first_with(columns: &[u32], i: usize, c: u32) -> usize {
+fn first_with(columns: &[u32], i: usize, c: u32) -> usize
+    ensures { λ r. ⌜ r ≡ places.first-with (now (columns .entry)) i c ⌝ }
+{
     let mut j = 0usize;
     while j < i {
         if cell(columns, j) == c {
@@ -49,7 +55,9 @@ fn next(i: usize) -> usize {
 }
 
 // Whether the column `i`, which stands for `c`, may.
-fn is_well(plan: &[u32], texts: &[u8], columns: &[u32], i: usize, c: u32, name: &[u8]) -> bool {
+fn is_well(plan: &[u32], texts: &[u8], columns: &[u32], i: usize, c: u32, name: &[u8]) -> bool
+    ensures { λ r. ⌜ r ≡ places.may-stand (now (columns .entry)) i c ⌝ }
+{
     if c == Column::LABEL {
         return true;
     }
@@ -73,7 +81,9 @@ fn read_one(
     ends: &[usize],
     i: usize,
     columns: &mut [u32],
-) -> bool {
+) -> bool
+    ensures { λ r. ⌜ (r ≡ places.may-stand (now (columns .entry)) i (places.of-field (now (plan .entry)) (now (texts .entry)) (now (kept .entry)) (now (ends .entry)) i)) × (now (columns .exit) ≡ set (now (columns .entry)) i (places.of-field (now (plan .entry)) (now (texts .entry)) (now (kept .entry)) (now (ends .entry)) i)) ⌝ }
+{
     let name = field(kept, ends, i);
     let c = stands_for(plan, texts, name);
     let well = is_well(plan, texts, columns, i, c, name);
@@ -81,7 +91,9 @@ fn read_one(
     well
 }
 
-fn both(a: bool, b: bool) -> bool {
+fn both(a: bool, b: bool) -> bool
+    ensures { λ r. ⌜ r ≡ (a && b) ⌝ }
+{
     if a {
         return b;
     }
@@ -96,7 +108,9 @@ pub fn read(
     ends: &[usize],
     fields: usize,
     columns: &mut [u32],
-) -> bool {
+) -> bool
+    ensures { λ r. ⌜ (r ≡ places.all-may (places.of-field (now (plan .entry)) (now (texts .entry)) (now (kept .entry)) (now (ends .entry))) (now (columns .entry)) 0 fields) × (now (columns .exit) ≡ places.columns-from (places.of-field (now (plan .entry)) (now (texts .entry)) (now (kept .entry)) (now (ends .entry))) (now (columns .entry)) 0 fields) ⌝ }
+{
     let mut well = true;
     let mut i = 0usize;
     while i < fields {

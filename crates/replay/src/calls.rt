@@ -1,16 +1,19 @@
 // The calls of a script, each answered by the public call of its name.
 use crate::rows::all;
+use digits::byte;
+use digits::word;
 use limits::Rows;
 use runs::Ran;
 use script::Call;
 use script::Given;
 use script::Line;
-use transcript::buffer::newline;
-use transcript::buffer::next_number;
-use transcript::buffer::word;
+use transcript::buffer::room;
+use transcript::counted;
 use transcript::refused_line;
 use transcript::replied;
 use transcript::shown;
+ghost use mathlib.Core.Path.{_≡_};
+ghost use Rattle.script.specs.Places.{line-of};
 
 // The most rows that a script lends.
 const ROWS_LENT: u64 = 8_192;
@@ -48,17 +51,11 @@ fn load(
 }
 
 // How a run ended, and the number of its cycles.
-fn ended(how: &[u8], cycles: u32, out: &mut [u8], o: usize) -> usize {
-    let p = word(how, out, o);
-    let q = next_number(cycles as u64, out, p);
-    newline(out, q)
-}
-
 fn ran(r: Ran, out: &mut [u8], o: usize) -> usize {
     match r {
-        Ran::Quiet(n) => ended(b"quiet", n, out, o),
-        Ran::Bounded(n) => ended(b"bounded", n, out, o),
-        Ran::Exception(n) => ended(b"exception", n, out, o),
+        Ran::Quiet(n) => counted(b"quiet", n, out, o),
+        Ran::Bounded(n) => counted(b"bounded", n, out, o),
+        Ran::Exception(n) => counted(b"exception", n, out, o),
         Ran::Refused(n) => refused_line(n, 0, out, o),
     }
 }
@@ -109,7 +106,7 @@ fn row(
 ) -> usize {
     let r = schotterei::read(plan, waits, state, kind, number, property);
     let p = shown(texts, r, out, o);
-    newline(out, p)
+    byte(b'\n', out, p)
 }
 
 // The answer to the call of a line.
@@ -165,12 +162,15 @@ pub fn line(
     state: &mut [u32],
     out: &mut [u8],
     o: usize,
-) -> Answered {
+) -> Answered
+    ensures { λ r. ⌜ r .next ≡ line-of (now (s .entry)) at .next ⌝ }
+{
     let mut tags = [0u32; Given::CELLS];
     let mut numbers = [0i64; Given::CELLS];
     let mut bytes = [0u8; Given::BYTES];
     let l = script::line_at(s, at, &mut tags, &mut numbers, &mut bytes);
     let next = l.next;
+    let from = room(out, o);
     let p = answer(
         l,
         s,
@@ -183,7 +183,7 @@ pub fn line(
         texts,
         state,
         out,
-        o,
+        from,
     );
     Answered { next: next, o: p }
 }

@@ -1,11 +1,12 @@
 // Every row, by kind, component and property; then the time and the Exception flag.
+use digits::word;
 use limits::Sources;
 use row_read::Kind;
 use row_read::Properties;
+use row_shown::Row;
 use row_shown::Shown;
-use transcript::buffer::newline;
-use transcript::buffer::next_number;
-use transcript::buffer::word;
+use transcript::buffer::room;
+use transcript::counted;
 use transcript::refused_line;
 
 // How many kinds section 10 has.
@@ -18,6 +19,20 @@ const CLASS: u64 = 0;
 const FLAG: usize = 1;
 
 const TIME: usize = 2;
+
+// The line of a row, where the buffer has room.
+fn row_line(
+    texts: &[u8],
+    kind: u64,
+    number: u64,
+    property: u64,
+    r: Row,
+    out: &mut [u8],
+    o: usize,
+) -> usize {
+    let from = room(out, o);
+    transcript::row(texts, kind, number, property, r, out, from)
+}
 
 // The line of a row, where there is one.
 fn row(
@@ -35,7 +50,7 @@ fn row(
     let s = r.shown;
     match s {
         Shown::NoRow => o,
-        _ => transcript::row(texts, kind, number, property, r, out, o),
+        _ => row_line(texts, kind, number, property, r, out, o),
     }
 }
 
@@ -105,13 +120,6 @@ fn of_kinds(
     p
 }
 
-// A word and a cell of the state.
-fn told(w: &[u8], state: &[u32], cell: usize, out: &mut [u8], o: usize) -> usize {
-    let p = word(w, out, o);
-    let q = next_number(blocks::cell(state, cell) as u64, out, p);
-    newline(out, q)
-}
-
 fn listed(
     texts: &[u8],
     plan: &[u32],
@@ -121,8 +129,9 @@ fn listed(
     o: usize,
 ) -> usize {
     let p = of_kinds(texts, plan, waits, state, out, o);
-    let q = told(b"time", state, TIME, out, p);
-    let r = told(b"flag", state, FLAG, out, q);
+    let from = room(out, p);
+    let q = counted(b"time", blocks::cell(state, TIME), out, from);
+    let r = counted(b"flag", blocks::cell(state, FLAG), out, q);
     word(b".\n", out, r)
 }
 

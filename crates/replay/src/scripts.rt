@@ -1,32 +1,13 @@
 // A script: whether it is one, and the answers to its calls.
 use crate::calls::line;
+use digits::word;
 use libc::STDERR_FILENO;
 use limits::Expressions;
-use script::Given;
+use script::is_script;
 use transcript::buffer::flush;
-use transcript::buffer::word;
-
-// The place behind the line that begins here.
-fn behind_line(s: &[u8], at: usize) -> usize {
-    let mut tags = [0u32; Given::CELLS];
-    let mut numbers = [0i64; Given::CELLS];
-    let mut bytes = [0u8; Given::BYTES];
-    let l = script::line_at(s, at, &mut tags, &mut numbers, &mut bytes);
-    l.next
-}
-
-// Whether every line is a call.
-fn is_script(s: &[u8]) -> bool {
-    let mut at = 0usize;
-    while at < s.len() {
-        let next = behind_line(s, at);
-        if next <= at {
-            return false;
-        }
-        at = next;
-    }
-    at == s.len()
-}
+ghost use mathlib.Core.Path.{_≡_};
+ghost use mathlib.Core.Bool.{false};
+ghost use Rattle.script.specs.Scripts.{is-script};
 
 // Answers the lines, one after the other.
 fn lines(
@@ -70,18 +51,22 @@ fn answers(s: &[u8], out: &mut [u8]) -> usize {
 }
 
 // Says that there is none, and that no other is answered.
-fn no_script() -> bool {
+fn no_script() -> bool
+    ensures { λ r. ⌜ r ≡ false ⌝ }
+{
     io::write_all(STDERR_FILENO, b"replay: no script\n");
     false
 }
 
 // Whether this is a script: then it is answered.
-pub fn replay(s: &[u8], out: &mut [u8]) -> bool {
-    if !is_script(s) {
-        return no_script();
+pub fn replay(s: &[u8], out: &mut [u8]) -> bool
+    ensures { λ r. ⌜ r ≡ is-script (now (s .entry)) ⌝ }
+{
+    if is_script(s) {
+        let o = answers(s, out);
+        let p = word(b"--\n", out, o);
+        flush(out, p);
+        return true;
     }
-    let o = answers(s, out);
-    let p = word(b"--\n", out, o);
-    flush(out, p);
-    true
+    no_script()
 }

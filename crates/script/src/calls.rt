@@ -6,6 +6,8 @@ use crate::lexemes::number_at;
 use crate::lexemes::text_at;
 use crate::values::value;
 use parts::byte;
+ghost use mathlib.Core.Path.{_≡_};
+ghost use Rattle.script.specs.Places as places;
 
 // The greatest numbers that a script has.
 const WIDE: u64 = 9_223_372_036_854_775_807;
@@ -33,7 +35,9 @@ pub struct Line {
     pub next: usize,
 }
 
-fn nothing() -> Line {
+fn nothing() -> Line
+    ensures { λ r. ⌜ r ≡ places.no-line ⌝ }
+{
     Line {
         call: Call::Rows,
         next: NOWHERE,
@@ -41,7 +45,9 @@ fn nothing() -> Line {
 }
 
 // The line of a text: it begins behind the number of its bytes, and a newline follows it.
-fn load(s: &[u8], at: usize) -> Line {
+fn load(s: &[u8], at: usize) -> Line
+    ensures { λ r. ⌜ r ≡ places.load-line (now (s .entry)) at ⌝ }
+{
     let n = number_at(s, at, NARROW, b'\n');
     let from = n.next;
     let many = n.value as usize;
@@ -58,7 +64,9 @@ fn load(s: &[u8], at: usize) -> Line {
     }
 }
 
-fn run(s: &[u8], at: usize) -> Line {
+fn run(s: &[u8], at: usize) -> Line
+    ensures { λ r. ⌜ r ≡ places.run-line (now (s .entry)) at ⌝ }
+{
     let bound = number_at(s, at, WIDE, b' ');
     let lent = number_at(s, bound.next, ROWS_LENT, b'\n');
     Line {
@@ -67,7 +75,9 @@ fn run(s: &[u8], at: usize) -> Line {
     }
 }
 
-fn time(s: &[u8], at: usize) -> Line {
+fn time(s: &[u8], at: usize) -> Line
+    ensures { λ r. ⌜ r ≡ places.time-line (now (s .entry)) at ⌝ }
+{
     let seconds = number_at(s, at, WIDE, b'\n');
     Line {
         call: Call::Time(seconds.value),
@@ -75,7 +85,9 @@ fn time(s: &[u8], at: usize) -> Line {
     }
 }
 
-fn confirm(s: &[u8], at: usize) -> Line {
+fn confirm(s: &[u8], at: usize) -> Line
+    ensures { λ r. ⌜ r ≡ places.confirm-line (now (s .entry)) at ⌝ }
+{
     let task = number_at(s, at, NARROW, b'\n');
     Line {
         call: Call::Confirm(task.value),
@@ -83,7 +95,9 @@ fn confirm(s: &[u8], at: usize) -> Line {
     }
 }
 
-fn add(s: &[u8], at: usize, tags: &mut [u32], numbers: &mut [i64], bytes: &mut [u8]) -> Line {
+fn add(s: &[u8], at: usize, tags: &mut [u32], numbers: &mut [i64], bytes: &mut [u8]) -> Line
+    ensures { λ r. ⌜ r ≡ places.add-line (now (s .entry)) at ⌝ }
+{
     let item = number_at(s, at, NARROW, b' ');
     let end = value(s, item.next, tags, numbers, bytes);
     Line {
@@ -92,7 +106,9 @@ fn add(s: &[u8], at: usize, tags: &mut [u32], numbers: &mut [i64], bytes: &mut [
     }
 }
 
-fn trigger(s: &[u8], at: usize, bytes: &mut [u8]) -> Line {
+fn trigger(s: &[u8], at: usize, bytes: &mut [u8]) -> Line
+    ensures { λ r. ⌜ r ≡ places.trigger-line (now (s .entry)) at ⌝ }
+{
     let none = behind(s, at, b"-\n");
     if none != NOWHERE {
         return Line {
@@ -107,7 +123,9 @@ fn trigger(s: &[u8], at: usize, bytes: &mut [u8]) -> Line {
     }
 }
 
-fn row(s: &[u8], at: usize) -> Line {
+fn row(s: &[u8], at: usize) -> Line
+    ensures { λ r. ⌜ r ≡ places.row-line (now (s .entry)) at ⌝ }
+{
     let kind = number_at(s, at, NARROW, b' ');
     let component = number_at(s, kind.next, NARROW, b' ');
     let property = number_at(s, component.next, NARROW, b'\n');
@@ -117,7 +135,9 @@ fn row(s: &[u8], at: usize) -> Line {
     }
 }
 
-fn rows(s: &[u8], at: usize) -> Line {
+fn rows(s: &[u8], at: usize) -> Line
+    ensures { λ r. ⌜ r ≡ places.rows-line (now (s .entry)) at ⌝ }
+{
     Line {
         call: Call::Rows,
         next: behind(s, at, b"s\n"),
@@ -125,7 +145,9 @@ fn rows(s: &[u8], at: usize) -> Line {
 }
 
 // The lines that begin with `row`, and those with `r`.
-fn row_or_rows(s: &[u8], at: usize) -> Line {
+fn row_or_rows(s: &[u8], at: usize) -> Line
+    ensures { λ r. ⌜ r ≡ places.row-or-rows (now (s .entry)) at ⌝ }
+{
     let p = behind(s, at, b" ");
     if p == NOWHERE {
         return rows(s, at);
@@ -133,7 +155,9 @@ fn row_or_rows(s: &[u8], at: usize) -> Line {
     row(s, p)
 }
 
-fn run_or_row(s: &[u8], at: usize) -> Line {
+fn run_or_row(s: &[u8], at: usize) -> Line
+    ensures { λ r. ⌜ r ≡ places.run-or-row (now (s .entry)) at ⌝ }
+{
     let p = behind(s, at, b"un ");
     if p == NOWHERE {
         return row_or_rows(s, behind(s, at, b"ow"));
@@ -141,7 +165,9 @@ fn run_or_row(s: &[u8], at: usize) -> Line {
     run(s, p)
 }
 
-fn time_or_trigger(s: &[u8], at: usize, bytes: &mut [u8]) -> Line {
+fn time_or_trigger(s: &[u8], at: usize, bytes: &mut [u8]) -> Line
+    ensures { λ r. ⌜ r ≡ places.time-or-trigger (now (s .entry)) at ⌝ }
+{
     let p = behind(s, at, b"ime ");
     if p == NOWHERE {
         return trigger(s, behind(s, at, b"rigger "), bytes);
@@ -150,13 +176,9 @@ fn time_or_trigger(s: &[u8], at: usize, bytes: &mut [u8]) -> Line {
 }
 
 // The line that begins here. What it is given goes to cells and bytes that are blank.
-pub fn line_at(
-    s: &[u8],
-    at: usize,
-    tags: &mut [u32],
-    numbers: &mut [i64],
-    bytes: &mut [u8],
-) -> Line {
+pub fn line_at(s: &[u8], at: usize, tags: &mut [u32], numbers: &mut [i64], bytes: &mut [u8]) -> Line
+    ensures { λ r. ⌜ r ≡ places.line-of (now (s .entry)) at ⌝ }
+{
     let p = after(s, at);
     match byte(s, at) {
         b'a' => add(s, behind(s, p, b"dd "), tags, numbers, bytes),

@@ -1,5 +1,10 @@
 // Words, numbers and hexadecimal texts.
 use parts::byte;
+ghost use mathlib.Core.Path.{_≡_};
+ghost use Prim.Native.Nat.{_+_, _*_};
+ghost use lib.ListN.{set, length, drop};
+ghost use Rattle.script.specs.Lexemes as lexemes;
+ghost use Rattle.script.specs.Lexemes.{TextRead};
 
 pub const NOWHERE: usize = usize::MAX;
 
@@ -15,7 +20,9 @@ pub struct Number {
 }
 
 // The place behind one byte.
-pub fn after(s: &[u8], at: usize) -> usize {
+pub fn after(s: &[u8], at: usize) -> usize
+    ensures { λ r. ⌜ r ≡ lexemes.after-one (now (s .entry)) at ⌝ }
+{
     if at < s.len() {
         return at + 1;
     }
@@ -23,7 +30,9 @@ pub fn after(s: &[u8], at: usize) -> usize {
 }
 
 // The place behind a word that stands here.
-pub fn behind(s: &[u8], at: usize, word: &[u8]) -> usize {
+pub fn behind(s: &[u8], at: usize, word: &[u8]) -> usize
+    ensures { λ r. ⌜ r ≡ lexemes.behind-word (now (s .entry)) at (now (word .entry)) ⌝ }
+{
     let mut p = at;
     let mut i = 0usize;
     while i < word.len() {
@@ -39,7 +48,9 @@ pub fn behind(s: &[u8], at: usize, word: &[u8]) -> usize {
     p
 }
 
-fn is_digit(b: u8) -> bool {
+fn is_digit(b: u8) -> bool
+    ensures { λ r. ⌜ r ≡ lexemes.is-digit b ⌝ }
+{
     if b < b'0' {
         return false;
     }
@@ -47,7 +58,9 @@ fn is_digit(b: u8) -> bool {
 }
 
 // A number with one digit more.
-fn with_digit(n: u64, b: u8) -> u64 {
+fn with_digit(n: u64, b: u8) -> u64
+    ensures { λ r. ⌜ r ≡ lexemes.with-digit n b ⌝ }
+{
     if b < b'0' {
         return n;
     }
@@ -58,7 +71,9 @@ fn with_digit(n: u64, b: u8) -> u64 {
 }
 
 // The digits that stand here, one at least.
-pub fn digits(s: &[u8], at: usize) -> Number {
+pub fn digits(s: &[u8], at: usize) -> Number
+    ensures { λ r. ⌜ r ≡ lexemes.digits-at (now (s .entry)) at ⌝ }
+{
     let mut n = 0u64;
     let mut p = at;
     while p < s.len() {
@@ -71,7 +86,9 @@ pub fn digits(s: &[u8], at: usize) -> Number {
     ended(n, p, at)
 }
 
-fn ended(n: u64, p: usize, at: usize) -> Number {
+fn ended(n: u64, p: usize, at: usize) -> Number
+    ensures { λ r. ⌜ r ≡ lexemes.ended-at n p at ⌝ }
+{
     if p == at {
         return Number {
             value: n,
@@ -81,14 +98,25 @@ fn ended(n: u64, p: usize, at: usize) -> Number {
     Number { value: n, next: p }
 }
 
+fn none() -> Number
+    ensures { λ r. ⌜ r ≡ lexemes.no-number ⌝ }
+{
+    Number {
+        value: 0,
+        next: NOWHERE,
+    }
+}
+
 // A number up to its limit, and behind it the byte `last`.
-pub fn number_at(s: &[u8], at: usize, limit: u64, last: u8) -> Number {
+pub fn number_at(s: &[u8], at: usize, limit: u64, last: u8) -> Number
+    ensures { λ r. ⌜ r ≡ lexemes.number-at (now (s .entry)) at limit last ⌝ }
+{
     let d = digits(s, at);
     if limit < d.value {
-        return ended(0, at, at);
+        return none();
     }
     if byte(s, d.next) != last {
-        return ended(0, at, at);
+        return none();
     }
     Number {
         value: d.value,
@@ -97,17 +125,34 @@ pub fn number_at(s: &[u8], at: usize, limit: u64, last: u8) -> Number {
 }
 
 // What a hexadecimal digit stands for; 16 is none.
-fn hexadecimal(b: u8) -> u8 {
-    match b {
-        b'0'..=b'9' => b - b'0',
-        b'a'..=b'f' => b - b'a' + 10,
-        b'A'..=b'F' => b - b'A' + 10,
-        _ => 16,
+fn hexadecimal(b: u8) -> u8
+    ensures { λ r. ⌜ r ≡ lexemes.hex-value b ⌝ }
+{
+    if b < b'0' {
+        return 16;
     }
+    if b <= b'9' {
+        return b - b'0';
+    }
+    if b < b'A' {
+        return 16;
+    }
+    if b <= b'F' {
+        return b - 55;
+    }
+    if b < b'a' {
+        return 16;
+    }
+    if b <= b'f' {
+        return b - 87;
+    }
+    16
 }
 
 // A byte in two digits; 256 is none.
-fn pair(a: u8, b: u8) -> u16 {
+fn pair(a: u8, b: u8) -> u16
+    ensures { λ r. ⌜ r ≡ lexemes.pair-value a b ⌝ }
+{
     let high = hexadecimal(a) as u16;
     let low = hexadecimal(b) as u16;
     if 15 < high {
@@ -120,7 +165,9 @@ fn pair(a: u8, b: u8) -> u16 {
 }
 
 // The byte `i` of the bytes from `from` on.
-fn put(bytes: &mut [u8], from: usize, i: usize, b: u8) {
+fn put(bytes: &mut [u8], from: usize, i: usize, b: u8)
+    ensures { λ _. ⌜ now (bytes .exit) ≡ set (now (bytes .entry)) (from + i) b ⌝ }
+{
     if bytes.len() <= from {
         return;
     }
@@ -141,7 +188,9 @@ impl Text {
     pub const KEPT: usize = 63;
 }
 
-fn longer(n: usize) -> usize {
+fn longer(n: usize) -> usize
+    ensures { λ r. ⌜ r ≡ lexemes.one-longer n ⌝ }
+{
     if n < Text::KEPT {
         return n + 1;
     }
@@ -149,7 +198,9 @@ fn longer(n: usize) -> usize {
 }
 
 // The text whose hexadecimal digits stand here, to the bytes from `from` on.
-pub fn text_at(s: &[u8], at: usize, bytes: &mut [u8], from: usize) -> Text {
+pub fn text_at(s: &[u8], at: usize, bytes: &mut [u8], from: usize) -> Text
+    ensures { λ r. ⌜ TextRead (now (s .entry)) at (now (bytes .entry)) from (now (bytes .exit)) r ⌝ }
+{
     let mut n = 0usize;
     let mut p = at;
     while p < s.len() {

@@ -7,7 +7,13 @@ use crate::lexemes::digits;
 use crate::lexemes::text_at;
 use blocks::put_cell;
 use parts::byte;
-ghost use Prim.Native.Nat.{_≤_};
+ghost use mathlib.Core.Path.{_≡_};
+ghost use mathlib.Core.Bool.{Bool};
+ghost use Prim.Native.Nat.{_<_, _≤_};
+ghost use lib.Dec.{eqb};
+ghost use Rattle.paper_expressions.specs.Bytes.{bytes as bytesOf};
+ghost use Rattle.script.specs.Lexemes.{nowhere, behind-word, digits-at};
+ghost use Rattle.script.specs.Places.{behind-truth, up-to, behind-signed, behind-text, behind-element, at-element, behind-elements, behind-value};
 
 // The most that a script has of each.
 pub struct Given {}
@@ -50,7 +56,9 @@ impl Element {
     const TEXT: u32 = 4;
 }
 
-fn truth(s: &[u8], at: usize) -> Element {
+fn truth(s: &[u8], at: usize) -> Element
+    ensures { λ r. ⌜ r .next ≡ behind-truth (now (s .entry)) at ⌝ }
+{
     let p = behind(s, at, b"0");
     if p != NOWHERE {
         return Element {
@@ -85,7 +93,9 @@ fn whole(minus: bool, n: u64) -> i64 {
 }
 
 // A number with its sign, up to its limit.
-fn signed(s: &[u8], at: usize, tag: u32, limit: u64) -> Element {
+fn signed(s: &[u8], at: usize, tag: u32, limit: u64) -> Element
+    ensures { λ r. ⌜ r .next ≡ behind-signed (now (s .entry)) at limit ⌝ }
+{
     let p = behind(s, at, b"-");
     if p == NOWHERE {
         return unsigned(s, at, tag, limit, false);
@@ -93,7 +103,9 @@ fn signed(s: &[u8], at: usize, tag: u32, limit: u64) -> Element {
     unsigned(s, p, tag, limit, true)
 }
 
-fn unsigned(s: &[u8], at: usize, tag: u32, limit: u64, minus: bool) -> Element {
+fn unsigned(s: &[u8], at: usize, tag: u32, limit: u64, minus: bool) -> Element
+    ensures { λ r. ⌜ r .next ≡ up-to limit (digits-at (now (s .entry)) at) ⌝ }
+{
     let d = digits(s, at);
     if limit < d.value {
         return nothing();
@@ -105,7 +117,9 @@ fn unsigned(s: &[u8], at: usize, tag: u32, limit: u64, minus: bool) -> Element {
     }
 }
 
-fn nothing() -> Element {
+fn nothing() -> Element
+    ensures { λ r. ⌜ r .next ≡ nowhere ⌝ }
+{
     Element {
         tag: Element::UNKNOWN,
         number: 0,
@@ -114,10 +128,10 @@ fn nothing() -> Element {
 }
 
 // The text of the i-th element, to its place among the bytes.
-fn spelt(s: &[u8], at: usize, bytes: &mut [u8], i: usize) -> Element {
-    if Given::ELEMENTS <= i {
-        return nothing();
-    }
+fn spelt(s: &[u8], at: usize, bytes: &mut [u8], i: usize) -> Element
+    requires { ⌜ i < 20 ⌝ }
+    ensures { λ r. ⌜ r .next ≡ behind-text (now (s .entry)) at ⌝ }
+{
     let place = Given::TEXT * i;
     let t = text_at(s, at, bytes, place);
     Element {
@@ -139,7 +153,10 @@ fn handle(place: usize, n: usize) -> i64 {
 }
 
 // The i-th element.
-fn element_at(s: &[u8], at: usize, bytes: &mut [u8], i: usize) -> Element {
+fn element_at(s: &[u8], at: usize, bytes: &mut [u8], i: usize) -> Element
+    requires { ⌜ i < 20 ⌝ }
+    ensures { λ r. ⌜ r .next ≡ behind-element (now (s .entry)) at ⌝ }
+{
     let p = after(s, at);
     match byte(s, at) {
         b'u' => Element {
@@ -170,10 +187,10 @@ fn put_element(
     numbers: &mut [i64],
     bytes: &mut [u8],
     i: usize,
-) -> usize {
-    if Given::ELEMENTS <= i {
-        return NOWHERE;
-    }
+) -> usize
+    requires { ⌜ i < 20 ⌝ }
+    ensures { λ r. ⌜ r ≡ behind-element (now (s .entry)) at ⌝ }
+{
     let e = element_at(s, at, bytes, i);
     put_cell(tags, 1 + i, e.tag);
     put_number(numbers, 1 + i, e.number);
@@ -188,7 +205,10 @@ fn next_element(
     numbers: &mut [i64],
     bytes: &mut [u8],
     i: usize,
-) -> usize {
+) -> usize
+    requires { ⌜ i < 20 ⌝ }
+    ensures { λ r. ⌜ r ≡ behind-element (now (s .entry)) (at-element (now (s .entry)) (eqb i 0) at) ⌝ }
+{
     if i == 0 {
         return put_element(s, at, tags, numbers, bytes, i);
     }
@@ -196,15 +216,17 @@ fn next_element(
 }
 
 // The end of a list of n elements, with its shape.
-fn closed(s: &[u8], at: usize, tags: &mut [u32], n: usize) -> usize {
-    if Given::ELEMENTS < n {
-        return NOWHERE;
-    }
+fn closed(s: &[u8], at: usize, tags: &mut [u32], n: usize) -> usize
+    requires { ⌜ n ≤ 20 ⌝ }
+    ensures { λ r. ⌜ r ≡ behind-word (now (s .entry)) at (bytesOf ")") ⌝ }
+{
     put_cell(tags, 0, n as u32 + 1);
     behind(s, at, b")")
 }
 
-fn list(s: &[u8], at: usize, tags: &mut [u32], numbers: &mut [i64], bytes: &mut [u8]) -> usize {
+fn list(s: &[u8], at: usize, tags: &mut [u32], numbers: &mut [i64], bytes: &mut [u8]) -> usize
+    ensures { λ r. ⌜ r ≡ behind-elements (now (s .entry)) 20 at ⌝ }
+{
     let mut p = at;
     let mut n = 0usize;
     while n < Given::ELEMENTS {
@@ -218,13 +240,9 @@ fn list(s: &[u8], at: usize, tags: &mut [u32], numbers: &mut [i64], bytes: &mut 
 }
 
 // Reads a value into cells and bytes that are blank: the place behind it.
-pub fn value(
-    s: &[u8],
-    at: usize,
-    tags: &mut [u32],
-    numbers: &mut [i64],
-    bytes: &mut [u8],
-) -> usize {
+pub fn value(s: &[u8], at: usize, tags: &mut [u32], numbers: &mut [i64], bytes: &mut [u8]) -> usize
+    ensures { λ r. ⌜ r ≡ behind-value (now (s .entry)) at ⌝ }
+{
     let p = behind(s, at, b"l(");
     if p == NOWHERE {
         return put_element(s, at, tags, numbers, bytes, 0);

@@ -1,11 +1,10 @@
 // A sheet as it comes in chunks: the first line, then all others. It is read through a buffer, so that any number of lines takes the same room.
 use crate::first_line;
-use crate::joined::plan_of;
-use crate::one_line::Season;
-use crate::records;
-use crate::records::Work;
 use libc::STDIN_FILENO;
-use season_answer::flush;
+use season_lines::Season;
+use season_lines::Work;
+use season_lines::flush;
+use season_lines::plan_of;
 use separated::Scan;
 ghost use Prim.Native.Nat.{_<_, _≤_};
 ghost use lib.ListN.{length};
@@ -30,7 +29,7 @@ fn taken(
         answered: w.answered,
     };
     if scan.done {
-        return records::answer(tables, waits, texts, columns, kept, ends, s, now, out);
+        return season_lines::answer(tables, waits, texts, columns, kept, ends, s, now, out);
     }
     now
 }
@@ -128,7 +127,7 @@ fn begin(
         n: chunk.len(),
         at: t.at,
         season: season,
-        work: records::begin(scan.lines, o, 0),
+        work: season_lines::begin(scan.lines, o, 0),
     }
 }
 

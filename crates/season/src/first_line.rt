@@ -1,9 +1,11 @@
 // The first line of the sheet.
-use crate::reports;
 use season_answer::heading;
 use separated::Fault;
 use separated::Scan;
 use separated::Taken;
+ghost use mathlib.Core.Path.{_≡_};
+ghost use mathlib.Core.Bool.{true};
+ghost use Rattle.season.specs.FirstLine.{is-line, well-line, Headed};
 
 // The bytes of a byte order mark, which some programs write before the first line.
 fn behind_mark(chunk: &[u8]) -> usize {
@@ -23,7 +25,9 @@ fn behind_mark(chunk: &[u8]) -> usize {
 }
 
 // The record that the first chunk begins with; a shorter chunk than the buffer is all of the sheet.
-pub fn take(chunk: &[u8], separator: u8, kept: &mut [u8], ends: &mut [usize]) -> Taken {
+pub fn take(chunk: &[u8], separator: u8, kept: &mut [u8], ends: &mut [usize]) -> Taken
+    ensures { λ r. ⌜ r .scan .done ≡ true ⌝ }
+{
     let t = separated::take(
         chunk,
         behind_mark(chunk),
@@ -43,16 +47,18 @@ pub fn take(chunk: &[u8], separator: u8, kept: &mut [u8], ends: &mut [usize]) ->
 }
 
 // Whether it can be read.
-fn is_line(scan: Scan) -> bool {
-    if !scan.began {
-        reports::no_heading();
-        return false;
+fn is_line(scan: Scan) -> bool
+    ensures { λ r. ⌜ r ≡ is-line scan ⌝ }
+{
+    if scan.began {
+        if scan.fault != Fault::NONE {
+            season_reports::fault(1, scan.wrong, scan.fault);
+            return false;
+        }
+        return true;
     }
-    if scan.fault != Fault::NONE {
-        reports::fault(1, scan.wrong, scan.fault);
-        return false;
-    }
-    true
+    season_reports::no_heading();
+    false
 }
 
 // Whether it names the columns of a sheet for the guideline; what is wrong is told.
@@ -63,14 +69,16 @@ pub fn is_well(
     kept: &[u8],
     ends: &[usize],
     columns: &mut [u32],
-) -> bool {
-    if !is_line(scan) {
+) -> bool
+    ensures { λ r. ⌜ r ≡ well-line scan (now (plan .entry)) (now (texts .entry)) (now (kept .entry)) (now (ends .entry)) (now (columns .entry)) ⌝ }
+{
+    if is_line(scan) {
+        if headings::read(plan, texts, kept, ends, scan.fields, columns) {
+            return true;
+        }
+        season_reports::refused();
         return false;
     }
-    if headings::read(plan, texts, kept, ends, scan.fields, columns) {
-        return true;
-    }
-    reports::refused();
     false
 }
 
@@ -85,7 +93,9 @@ pub fn answer(
     ends: &[usize],
     separator: u8,
     out: &mut [u8],
-) -> usize {
+) -> usize
+    ensures { λ r. ⌜ Headed well (now (plan .entry)) (now (texts .entry)) (now (columns .entry)) many (now (kept .entry)) (now (ends .entry)) separator (now (out .entry)) (now (out .exit)) r ⌝ }
+{
     if well {
         return heading(plan, texts, columns, many, kept, ends, separator, out, 0);
     }

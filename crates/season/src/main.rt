@@ -4,14 +4,10 @@
 // status is not 0: `g` if the guideline is refused, `r` if something of the sheet is.
 mod chunks;
 mod first_line;
-mod joined;
-mod one_line;
-mod records;
-mod reports;
 
-use joined::Cells;
 use load::Reply;
 use season_answer::Size;
+use season_lines::Cells;
 
 // The guideline.
 const GUIDELINE: i32 = 3;
@@ -19,14 +15,19 @@ const GUIDELINE: i32 = 3;
 fn confirms() -> bool {
     let mut argument = [0u8; 16];
     let n = os::arg(1, &mut argument);
-    reports::is_confirm(&argument, n)
+    typed_value::lexemes::is_word(&argument, 0, n, b"--confirm")
 }
 
 // What load left, as one table of cells.
 fn all_of(parts: &[u32], plan: &[u32], waits: [[bool; 32]; 32], texts: &[u8], state: &[u32]) {
     let mut tables = [0u32; Cells::ALL];
-    joined::join(parts, plan, state, &mut tables);
+    season_lines::join(parts, plan, state, &mut tables);
     on_sheet(&tables, waits, texts);
+}
+
+// Room for what is written.
+fn room() -> [u8; Size::BUFFER] {
+    [0; Size::BUFFER]
 }
 
 // Reads the sheet through buffers, and answers it.
@@ -35,7 +36,7 @@ fn on_sheet(tables: &[u32], waits: [[bool; 32]; 32], texts: &[u8]) {
     let mut kept = [0u8; Size::KEPT];
     let mut ends = [0usize; headings::Column::LIMIT];
     let mut columns = [0u32; headings::Column::LIMIT];
-    let mut out = io::large_buffer();
+    let mut out = room();
     chunks::answer(
         tables,
         waits,
@@ -67,7 +68,7 @@ fn open(text: &[u8]) {
         &mut state,
     ) {
         Reply::Done => all_of(&parts, &plan, waits, &texts, &state),
-        Reply::Refused(number, place) => reports::guideline(number, place),
+        Reply::Refused(number, place) => season_reports::guideline(number, place),
     }
 }
 

@@ -4,6 +4,8 @@ use crate::room::nothing;
 use blocks::cell;
 use headings::Column;
 use separated::field;
+ghost use Rattle.digits.specs.Appends.{Appends};
+ghost use Rattle.season_answer.specs.Fields.{label-written, labels-written, no-label-written, no-labels-written};
 
 fn label(
     columns: &[u32],
@@ -13,7 +15,9 @@ fn label(
     separator: u8,
     out: &mut [u8],
     o: usize,
-) -> usize {
+) -> usize
+    ensures { λ r. ⌜ Appends (now (out .entry)) (now (out .exit)) o r (label-written (now (columns .entry)) (now (kept .entry)) (now (ends .entry)) separator i) ⌝ }
+{
     if cell(columns, i) != Column::LABEL {
         return o;
     }
@@ -29,7 +33,9 @@ pub fn labels(
     separator: u8,
     out: &mut [u8],
     o: usize,
-) -> usize {
+) -> usize
+    ensures { λ r. ⌜ Appends (now (out .entry)) (now (out .exit)) o r (labels-written (now (columns .entry)) many (now (kept .entry)) (now (ends .entry)) separator) ⌝ }
+{
     let mut p = o;
     let mut i = 0usize;
     while i < many {
@@ -40,14 +46,18 @@ pub fn labels(
 }
 
 // The same of a line that can't be read: nothing in their place.
-fn no_label(columns: &[u32], i: usize, separator: u8, out: &mut [u8], o: usize) -> usize {
+fn no_label(columns: &[u32], i: usize, separator: u8, out: &mut [u8], o: usize) -> usize
+    ensures { λ r. ⌜ Appends (now (out .entry)) (now (out .exit)) o r (no-label-written (now (columns .entry)) separator i) ⌝ }
+{
     if cell(columns, i) != Column::LABEL {
         return o;
     }
     nothing(separator, out, o)
 }
 
-pub fn no_labels(columns: &[u32], many: usize, separator: u8, out: &mut [u8], o: usize) -> usize {
+pub fn no_labels(columns: &[u32], many: usize, separator: u8, out: &mut [u8], o: usize) -> usize
+    ensures { λ r. ⌜ Appends (now (out .entry)) (now (out .exit)) o r (no-labels-written (now (columns .entry)) many separator) ⌝ }
+{
     let mut p = o;
     let mut i = 0usize;
     while i < many {

@@ -8,6 +8,9 @@ use values::Handle;
 use values::Scalar;
 use values::Value;
 ghost use Prim.Native.Nat.{_<_};
+ghost use Rattle.headings.specs.Columns.{item-count};
+ghost use Rattle.digits.specs.Appends.{Appends};
+ghost use Rattle.season_answer.specs.Fields.{blanks-written};
 
 // The number of the property value (section 10).
 const PROPERTY: u64 = 42;
@@ -90,7 +93,9 @@ pub fn item_values(
 }
 
 // Of a line that did not run: no value of any.
-pub fn blanks(plan: &[u32], separator: u8, out: &mut [u8], o: usize) -> usize {
+pub fn blanks(plan: &[u32], separator: u8, out: &mut [u8], o: usize) -> usize
+    ensures { λ r. ⌜ Appends (now (out .entry)) (now (out .exit)) o r (blanks-written (item-count (now (plan .entry))) separator) ⌝ }
+{
     let n = count(plan);
     let mut p = o;
     let mut d = 0usize;

@@ -17,5 +17,4 @@ pub use first_line::heading;
 pub use item_fields::blanks;
 pub use item_fields::item_values;
 pub use room::Size;
-pub use room::flush;
 pub use tasks::reached;

@@ -22,7 +22,7 @@ kindOf b separator =
     (pick (eqb b 10) Newline
     (pick (eqb b 13) Return Other)))
 
-abbrev move : Act → Mode → Move
+abbrev pub move : Act → Mode → Move
 move a m = record { act = a; mode = m }
 
 abbrev pub stepOf : Mode → Kind → Move

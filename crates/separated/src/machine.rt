@@ -1,6 +1,6 @@
 // What a byte does to a record: a machine over six modes and five kinds of bytes.
 ghost use mathlib.Core.Path.{_≡_};
-ghost use Rattle.separated.specs.Machine.{kindOf, stepOf};
+ghost use Rattle.separated.specs.Machine.{kindOf, move, stepOf};
 
 pub struct Byte {}
 
@@ -63,30 +63,24 @@ pub fn kind_of(b: u8, separator: u8) -> Kind
     Kind::Other
 }
 
+fn to(act: Act, mode: Mode) -> Move
+    ensures { λ r. ⌜ r ≡ move act mode ⌝ }
+{
+    Move {
+        act: act,
+        mode: mode,
+    }
+}
+
 fn opening(k: Kind) -> Move
     ensures { λ r. ⌜ r ≡ stepOf Mode.Before k ⌝ }
 {
     match k {
-        Kind::Quote => Move {
-            act: Act::Pass,
-            mode: Mode::Quoted,
-        },
-        Kind::Newline => Move {
-            act: Act::Last,
-            mode: Mode::Before,
-        },
-        Kind::Return => Move {
-            act: Act::Pass,
-            mode: Mode::Returned,
-        },
-        Kind::Separator => Move {
-            act: Act::End,
-            mode: Mode::Before,
-        },
-        Kind::Other => Move {
-            act: Act::Keep,
-            mode: Mode::Bare,
-        },
+        Kind::Quote => to(Act::Pass, Mode::Quoted),
+        Kind::Newline => to(Act::Last, Mode::Before),
+        Kind::Return => to(Act::Pass, Mode::Returned),
+        Kind::Separator => to(Act::End, Mode::Before),
+        Kind::Other => to(Act::Keep, Mode::Bare),
     }
 }
 
@@ -94,26 +88,11 @@ fn bare(k: Kind) -> Move
     ensures { λ r. ⌜ r ≡ stepOf Mode.Bare k ⌝ }
 {
     match k {
-        Kind::Quote => Move {
-            act: Act::Fault,
-            mode: Mode::Lost,
-        },
-        Kind::Newline => Move {
-            act: Act::Last,
-            mode: Mode::Before,
-        },
-        Kind::Return => Move {
-            act: Act::Pass,
-            mode: Mode::Returned,
-        },
-        Kind::Separator => Move {
-            act: Act::End,
-            mode: Mode::Before,
-        },
-        Kind::Other => Move {
-            act: Act::Keep,
-            mode: Mode::Bare,
-        },
+        Kind::Quote => to(Act::Fault, Mode::Lost),
+        Kind::Newline => to(Act::Last, Mode::Before),
+        Kind::Return => to(Act::Pass, Mode::Returned),
+        Kind::Separator => to(Act::End, Mode::Before),
+        Kind::Other => to(Act::Keep, Mode::Bare),
     }
 }
 
@@ -121,26 +100,11 @@ fn inside(k: Kind) -> Move
     ensures { λ r. ⌜ r ≡ stepOf Mode.Quoted k ⌝ }
 {
     match k {
-        Kind::Quote => Move {
-            act: Act::Pass,
-            mode: Mode::Closed,
-        },
-        Kind::Newline => Move {
-            act: Act::Keep,
-            mode: Mode::Quoted,
-        },
-        Kind::Return => Move {
-            act: Act::Keep,
-            mode: Mode::Quoted,
-        },
-        Kind::Separator => Move {
-            act: Act::Keep,
-            mode: Mode::Quoted,
-        },
-        Kind::Other => Move {
-            act: Act::Keep,
-            mode: Mode::Quoted,
-        },
+        Kind::Quote => to(Act::Pass, Mode::Closed),
+        Kind::Newline => to(Act::Keep, Mode::Quoted),
+        Kind::Return => to(Act::Keep, Mode::Quoted),
+        Kind::Separator => to(Act::Keep, Mode::Quoted),
+        Kind::Other => to(Act::Keep, Mode::Quoted),
     }
 }
 
@@ -148,26 +112,11 @@ fn closed(k: Kind) -> Move
     ensures { λ r. ⌜ r ≡ stepOf Mode.Closed k ⌝ }
 {
     match k {
-        Kind::Quote => Move {
-            act: Act::Keep,
-            mode: Mode::Quoted,
-        },
-        Kind::Newline => Move {
-            act: Act::Last,
-            mode: Mode::Before,
-        },
-        Kind::Return => Move {
-            act: Act::Pass,
-            mode: Mode::Returned,
-        },
-        Kind::Separator => Move {
-            act: Act::End,
-            mode: Mode::Before,
-        },
-        Kind::Other => Move {
-            act: Act::Fault,
-            mode: Mode::Lost,
-        },
+        Kind::Quote => to(Act::Keep, Mode::Quoted),
+        Kind::Newline => to(Act::Last, Mode::Before),
+        Kind::Return => to(Act::Pass, Mode::Returned),
+        Kind::Separator => to(Act::End, Mode::Before),
+        Kind::Other => to(Act::Fault, Mode::Lost),
     }
 }
 
@@ -175,26 +124,11 @@ fn returned(k: Kind) -> Move
     ensures { λ r. ⌜ r ≡ stepOf Mode.Returned k ⌝ }
 {
     match k {
-        Kind::Quote => Move {
-            act: Act::Fault,
-            mode: Mode::Lost,
-        },
-        Kind::Newline => Move {
-            act: Act::Last,
-            mode: Mode::Before,
-        },
-        Kind::Return => Move {
-            act: Act::Fault,
-            mode: Mode::Lost,
-        },
-        Kind::Separator => Move {
-            act: Act::Fault,
-            mode: Mode::Lost,
-        },
-        Kind::Other => Move {
-            act: Act::Fault,
-            mode: Mode::Lost,
-        },
+        Kind::Quote => to(Act::Fault, Mode::Lost),
+        Kind::Newline => to(Act::Last, Mode::Before),
+        Kind::Return => to(Act::Fault, Mode::Lost),
+        Kind::Separator => to(Act::Fault, Mode::Lost),
+        Kind::Other => to(Act::Fault, Mode::Lost),
     }
 }
 
@@ -202,26 +136,11 @@ fn lost(k: Kind) -> Move
     ensures { λ r. ⌜ r ≡ stepOf Mode.Lost k ⌝ }
 {
     match k {
-        Kind::Quote => Move {
-            act: Act::Pass,
-            mode: Mode::Lost,
-        },
-        Kind::Newline => Move {
-            act: Act::Last,
-            mode: Mode::Before,
-        },
-        Kind::Return => Move {
-            act: Act::Pass,
-            mode: Mode::Lost,
-        },
-        Kind::Separator => Move {
-            act: Act::Pass,
-            mode: Mode::Lost,
-        },
-        Kind::Other => Move {
-            act: Act::Pass,
-            mode: Mode::Lost,
-        },
+        Kind::Quote => to(Act::Pass, Mode::Lost),
+        Kind::Newline => to(Act::Last, Mode::Before),
+        Kind::Return => to(Act::Pass, Mode::Lost),
+        Kind::Separator => to(Act::Pass, Mode::Lost),
+        Kind::Other => to(Act::Pass, Mode::Lost),
     }
 }
 

@@ -6,7 +6,9 @@ use crate::machine::Mode;
 use crate::machine::kind_of;
 use crate::machine::step;
 ghost use Prim.Native.Nat.{_<_, _≤_};
-ghost use lib.ListN.{length};
+ghost use lib.ListN.{length, set};
+ghost use mathlib.Core.Path.{_≡_};
+ghost use Rattle.separated.specs.Records as records;
 
 pub struct Fault {}
 
@@ -52,7 +54,9 @@ pub struct Taken {
 }
 
 // A new record, behind so many lines.
-pub fn begin(lines: u64) -> Scan {
+pub fn begin(lines: u64) -> Scan
+    ensures { λ r. ⌜ r ≡ records.begun lines ⌝ }
+{
     Scan {
         mode: Mode::Before,
         n: 0,
@@ -94,7 +98,9 @@ fn moved(s: Scan, mode: Mode, b: u8) -> Scan {
 }
 
 // The first thing that is wrong counts.
-fn spoilt(mut s: Scan, fault: u8) -> Scan {
+fn spoilt(mut s: Scan, fault: u8) -> Scan
+    ensures { λ r. ⌜ r ≡ records.spoiltBy fault s ⌝ }
+{
     if s.fault == Fault::NONE {
         s.fault = fault;
         s.wrong = s.fields;
@@ -102,11 +108,12 @@ fn spoilt(mut s: Scan, fault: u8) -> Scan {
     s
 }
 
+// What is wrong with a byte that no record has in this mode.
 fn fault_in(m: Mode) -> u8 {
     match m {
         Mode::Before => Fault::NONE,
         Mode::Bare => Fault::QUOTE_INSIDE,
-        Mode::Quoted => Fault::OPEN,
+        Mode::Quoted => Fault::NONE,
         Mode::Closed => Fault::BEHIND_QUOTE,
         Mode::Returned => Fault::LONE_RETURN,
         Mode::Lost => Fault::NONE,
@@ -123,7 +130,9 @@ fn keep(mut s: Scan, b: u8, kept: &mut [u8]) -> Scan {
     s
 }
 
-fn end_field(mut s: Scan, ends: &mut [usize]) -> Scan {
+fn end_field(mut s: Scan, ends: &mut [usize]) -> Scan
+    ensures { λ r. ⌜ (r ≡ records.field-ended (length (now (ends .entry))) s) × (now (ends .exit) ≡ set (now (ends .entry)) (s .fields) (s .n)) ⌝ }
+{
     let k = s.fields;
     if ends.len() <= k {
         return spoilt(s, Fault::TOO_MANY);
@@ -133,7 +142,9 @@ fn end_field(mut s: Scan, ends: &mut [usize]) -> Scan {
     s
 }
 
-fn end_record(s: Scan, ends: &mut [usize]) -> Scan {
+fn end_record(s: Scan, ends: &mut [usize]) -> Scan
+    ensures { λ r. ⌜ (r ≡ records.record-ended (length (now (ends .entry))) s) × (now (ends .exit) ≡ set (now (ends .entry)) (s .fields) (s .n)) ⌝ }
+{
     let mut t = end_field(s, ends);
     t.done = true;
     t
@@ -178,11 +189,24 @@ pub fn take(
     Taken { at: at, scan: s }
 }
 
-// The end of the input, where a record began: it ends there too.
-pub fn finish(s: Scan, ends: &mut [usize]) -> Scan {
+// What is wrong with a record that the end of the input cuts off.
+fn cut_off(s: Scan) -> Scan
+    ensures { λ r. ⌜ r ≡ records.cut-off (s .mode) s ⌝ }
+{
     let mode = s.mode;
     match mode {
-        Mode::Before | Mode::Bare | Mode::Closed | Mode::Lost => end_record(s, ends),
-        Mode::Quoted | Mode::Returned => end_record(spoilt(s, fault_in(mode)), ends),
+        Mode::Before => s,
+        Mode::Bare => s,
+        Mode::Quoted => spoilt(s, Fault::OPEN),
+        Mode::Closed => s,
+        Mode::Returned => spoilt(s, Fault::LONE_RETURN),
+        Mode::Lost => s,
     }
+}
+
+// The end of the input, where a record began: it ends there too.
+pub fn finish(s: Scan, ends: &mut [usize]) -> Scan
+    ensures { λ r. ⌜ (r ≡ records.finished (length (now (ends .entry))) s) × (now (ends .exit) ≡ set (now (ends .entry)) (s .fields) (s .n)) ⌝ }
+{
+    end_record(cut_off(s), ends)
 }

@@ -1,5 +1,4 @@
 // One line of a sheet as a series of calls: values are added, and the guideline runs until it is quiet.
-mod asked;
 mod fields;
 mod one_value;
 mod until_quiet;

@@ -3,6 +3,7 @@ use field_values::Refusal;
 use replying::Reply;
 use state::Plan;
 use typed_value::Room;
+ghost use Rattle.series.specs.Series.{CellsAdded, FieldAdded};
 
 // What the call of add replies to the cells of a field.
 fn add_cells(
@@ -13,7 +14,9 @@ fn add_cells(
     tags: &[u32],
     numbers: &[i64],
     bytes: &[u8],
-) -> u8 {
+) -> u8
+    ensures { λ r. ⌜ CellsAdded item (now (tags .entry)) (now (numbers .entry)) (now (bytes .entry)) (now (texts .entry)) (now (plan .entry)) (now (state .entry)) (now (texts .exit)) (now (state .exit)) r ⌝ }
+{
     match schotterei::add(texts, plan, state, item as u64, tags, numbers, bytes) {
         Reply::Done => Refusal::NONE,
         Reply::Refused(number) => number,
@@ -30,7 +33,9 @@ fn through(
     tags: &mut [u32],
     numbers: &mut [i64],
     bytes: &mut [u8],
-) -> u8 {
+) -> u8
+    ensures { λ r. ⌜ FieldAdded item (now (field .entry)) (now (texts .entry)) (now (plan .entry)) (now (state .entry)) (now (texts .exit)) (now (state .exit)) r ⌝ }
+{
     let declared = blocks::cell(plan, Plan::ITEM_TYPE + item as usize);
     let refused = field_values::read(declared, field, tags, numbers, bytes);
     if refused != Refusal::NONE {
@@ -40,7 +45,9 @@ fn through(
 }
 
 // Adds the field as the value of the data item, nothing if it is empty: the number of the refusal, or none.
-pub fn add(texts: &mut [u8], plan: &[u32], state: &mut [u32], item: u32, field: &[u8]) -> u8 {
+pub fn add(texts: &mut [u8], plan: &[u32], state: &mut [u32], item: u32, field: &[u8]) -> u8
+    ensures { λ r. ⌜ FieldAdded item (now (field .entry)) (now (texts .entry)) (now (plan .entry)) (now (state .entry)) (now (texts .exit)) (now (state .exit)) r ⌝ }
+{
     if field.len() == 0 {
         return Refusal::NONE;
     }

@@ -1,22 +1,30 @@
 // What reading a row answers.
+use digits::byte;
+use digits::number;
+use digits::word;
 use row_shown::Class;
 use row_shown::Row;
 use row_shown::Shown;
-use transcript_values::buffer::byte;
-use transcript_values::buffer::newline;
 use transcript_values::buffer::next_number;
-use transcript_values::buffer::number;
-use transcript_values::buffer::word;
-use transcript_values::literals::value;
+use transcript_values::value;
+ghost use mathlib.Core.List.{_++_};
+ghost use Rattle.paper_expressions.specs.Bytes.{bytes as bytesOf};
+ghost use Rattle.paper_guideline.specs.Line.{digits-of};
+ghost use Rattle.digits.specs.Appends.{Appends};
+ghost use Rattle.transcript.specs.Answers.{refused-written, state-word, class-word, type-word, row-written, row-lined};
 
 // A refusal, with its number and its place.
-pub fn refused(n: u8, place: usize, out: &mut [u8], o: usize) -> usize {
+pub fn refused(n: u8, place: usize, out: &mut [u8], o: usize) -> usize
+    ensures { λ r. ⌜ Appends (now (out .entry)) (now (out .exit)) o r (refused-written n place) ⌝ }
+{
     let p = word(b"refused", out, o);
-    let q = next_number(n as u64, out, p);
-    next_number(place as u64, out, q)
+    let q = next_number(n as usize, out, p);
+    next_number(place, out, q)
 }
 
-fn state(n: u32, out: &mut [u8], o: usize) -> usize {
+fn state(n: u32, out: &mut [u8], o: usize) -> usize
+    ensures { λ r. ⌜ Appends (now (out .entry)) (now (out .exit)) o r (state-word n) ⌝ }
+{
     match n {
         1 => word(b"dormant", out, o),
         2 => word(b"in_progress", out, o),
@@ -26,7 +34,9 @@ fn state(n: u32, out: &mut [u8], o: usize) -> usize {
 }
 
 // The classes that a load gives.
-fn class(n: u32, out: &mut [u8], o: usize) -> usize {
+fn class(n: u32, out: &mut [u8], o: usize) -> usize
+    ensures { λ r. ⌜ Appends (now (out .entry)) (now (out .exit)) o r (class-word n) ⌝ }
+{
     match n {
         Class::DATA_ITEM => word(b"data_item", out, o),
         Class::PLAN => word(b"plan", out, o),
@@ -36,7 +46,9 @@ fn class(n: u32, out: &mut [u8], o: usize) -> usize {
     }
 }
 
-fn declared(n: u32, out: &mut [u8], o: usize) -> usize {
+fn declared(n: u32, out: &mut [u8], o: usize) -> usize
+    ensures { λ r. ⌜ Appends (now (out .entry)) (now (out .exit)) o r (type-word n) ⌝ }
+{
     match n {
         1 => word(b"text", out, o),
         2 => word(b"integer", out, o),
@@ -51,20 +63,26 @@ fn declared(n: u32, out: &mut [u8], o: usize) -> usize {
     }
 }
 
-fn time(n: u32, out: &mut [u8], o: usize) -> usize {
+fn time(n: u32, out: &mut [u8], o: usize) -> usize
+    ensures { λ r. ⌜ Appends (now (out .entry)) (now (out .exit)) o r (bytesOf "@" ++ digits-of n) ⌝ }
+{
     let p = byte(b'@', out, o);
-    number(n as u64, out, p)
+    number(n as usize, out, p)
 }
 
-fn component(kind: u8, n: u32, out: &mut [u8], o: usize) -> usize {
+fn component(kind: u8, n: u32, out: &mut [u8], o: usize) -> usize
+    ensures { λ r. ⌜ Appends (now (out .entry)) (now (out .exit)) o r (bytesOf "#" ++ digits-of kind ++ bytesOf "." ++ digits-of n) ⌝ }
+{
     let p = byte(b'#', out, o);
-    let q = number(kind as u64, out, p);
+    let q = number(kind as usize, out, p);
     let r = byte(b'.', out, q);
-    number(n as u64, out, r)
+    number(n as usize, out, r)
 }
 
 // The answer, whose texts stand in these bytes.
-pub fn shown(bytes: &[u8], r: Row, out: &mut [u8], o: usize) -> usize {
+pub fn shown(bytes: &[u8], r: Row, out: &mut [u8], o: usize) -> usize
+    ensures { λ p. ⌜ Appends (now (out .entry)) (now (out .exit)) o p (row-written (now (bytes .entry)) r) ⌝ }
+{
     let s = r.shown;
     let v = r.value;
     match s {
@@ -89,11 +107,13 @@ pub fn row(
     r: Row,
     out: &mut [u8],
     o: usize,
-) -> usize {
-    let a = number(kind, out, o);
-    let b = next_number(component, out, a);
-    let c = next_number(property, out, b);
+) -> usize
+    ensures { λ p. ⌜ Appends (now (out .entry)) (now (out .exit)) o p (row-lined (now (bytes .entry)) kind component property r) ⌝ }
+{
+    let a = number(kind as usize, out, o);
+    let b = next_number(component as usize, out, a);
+    let c = next_number(property as usize, out, b);
     let d = byte(b' ', out, c);
     let e = shown(bytes, r, out, d);
-    newline(out, e)
+    byte(b'\n', out, e)
 }

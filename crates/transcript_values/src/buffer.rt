@@ -1,5 +1,11 @@
-// A buffer before standard output.
+// A buffer before standard output: it is written when more than a quarter of it is full, and no line has as many bytes as the rest.
+use digits::byte;
+use digits::number;
 use libc::STDOUT_FILENO;
+ghost use mathlib.Core.Path.{_≡_};
+ghost use lib.ListN.{length};
+ghost use Rattle.digits.specs.Appends.{Appends};
+ghost use Rattle.transcript_values.specs.Literals.{room-at, next-number};
 
 // Writes the first `o` bytes of the buffer.
 pub fn flush(out: &[u8], o: usize) {
@@ -9,47 +15,21 @@ pub fn flush(out: &[u8], o: usize) {
     io::write_all(STDOUT_FILENO, &out[..o]);
 }
 
-// Where the next byte goes: to the front, if the buffer was full and is written.
-fn room(out: &[u8], o: usize) -> usize {
-    if o < out.len() {
+// Where the next line goes.
+pub fn room(out: &[u8], o: usize) -> usize
+    ensures { λ r. ⌜ r ≡ room-at (length (now (out .entry))) o ⌝ }
+{
+    if o <= out.len() / 4 {
         return o;
     }
-    flush(out, out.len());
+    flush(out, o);
     0
 }
 
-pub fn byte(b: u8, out: &mut [u8], o: usize) -> usize {
-    let p = room(out, o);
-    if p < out.len() {
-        out[p] = b;
-        return p + 1;
-    }
-    p
-}
-
-pub fn word(w: &[u8], out: &mut [u8], o: usize) -> usize {
-    let mut p = o;
-    let mut i = 0usize;
-    while i < w.len() {
-        p = byte(w[i], out, p);
-        i += 1;
-    }
-    p
-}
-
-// A number in digits.
-pub fn number(n: u64, out: &mut [u8], o: usize) -> usize {
-    let mut digits = [0u8; 20];
-    let k = io::decimal(n, &mut digits);
-    word(&digits[..k], out, o)
-}
-
 // A number behind a blank.
-pub fn next_number(n: u64, out: &mut [u8], o: usize) -> usize {
+pub fn next_number(n: usize, out: &mut [u8], o: usize) -> usize
+    ensures { λ r. ⌜ Appends (now (out .entry)) (now (out .exit)) o r (next-number n) ⌝ }
+{
     let p = byte(b' ', out, o);
     number(n, out, p)
-}
-
-pub fn newline(out: &mut [u8], o: usize) -> usize {
-    byte(b'\n', out, o)
 }

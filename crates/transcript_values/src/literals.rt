@@ -1,13 +1,23 @@
-// Values: a letter for the kind, then digits; lists in parentheses.
-use crate::buffer::byte;
-use crate::buffer::word;
+// One scalar: a letter for the kind, then digits.
+use digits::byte;
+use digits::integer;
+use digits::word;
 use numbers::Num;
+use parts::names::at;
 use values::Handle;
-use values::List;
 use values::Scalar;
-use values::Value;
+ghost use mathlib.Core.Path.{_≡_};
+ghost use mathlib.Core.List.{_∷_};
+ghost use Prim.Native.Nat.{_<_};
+ghost use Rattle.paper_expressions.specs.Values as paper;
+ghost use Rattle.paper_guideline.specs.Line.{digits-of, with-sign};
+ghost use Rattle.values.specs.Meaning.{bytesOf, meaning};
+ghost use Rattle.digits.specs.Appends.{Appends};
+ghost use Rattle.transcript_values.specs.Literals.{hex-digit, in-hex, all-hex, scalar-literal};
 
-fn truth(t: bool, out: &mut [u8], o: usize) -> usize {
+fn truth(t: bool, out: &mut [u8], o: usize) -> usize
+    ensures { λ r. ⌜ Appends (now (out .entry)) (now (out .exit)) o r (scalar-literal (paper.truth t)) ⌝ }
+{
     if t {
         return word(b"b1", out, o);
     }
@@ -15,49 +25,54 @@ fn truth(t: bool, out: &mut [u8], o: usize) -> usize {
 }
 
 // A kind's letter and a number with its sign: of a real, its thousandths.
-fn signed(kind: u8, n: Num, out: &mut [u8], o: usize) -> usize {
-    let mut digits = [0u8; 24];
-    let k = digits::integer(n, &mut digits, 0);
+fn signed(kind: u8, n: Num, out: &mut [u8], o: usize) -> usize
+    ensures { λ r. ⌜ Appends (now (out .entry)) (now (out .exit)) o r (kind ∷ with-sign digits-of (n .z)) ⌝ }
+{
     let p = byte(kind, out, o);
-    first(&digits, k, out, p)
+    integer(n, out, p)
 }
 
-// The first k bytes.
-fn first(w: &[u8], k: usize, out: &mut [u8], o: usize) -> usize {
-    if w.len() < k {
-        return o;
-    }
-    word(&w[..k], out, o)
-}
-
-fn hexadecimal(n: u8) -> u8 {
+fn hexadecimal(n: u8) -> u8
+    requires { ⌜ n < 16 ⌝ }
+    ensures { λ r. ⌜ r ≡ hex-digit n ⌝ }
+{
     if n < 10 {
         return b'0' + n;
     }
-    if n < 16 {
-        return b'a' - 10 + n;
-    }
-    b'?'
+    b'a' - 10 + n
 }
 
-fn two_digits(b: u8, out: &mut [u8], o: usize) -> usize {
+fn two_digits(b: u8, out: &mut [u8], o: usize) -> usize
+    ensures { λ r. ⌜ Appends (now (out .entry)) (now (out .exit)) o r (in-hex b) ⌝ }
+{
     let p = byte(hexadecimal(b / 16), out, o);
     byte(hexadecimal(b % 16), out, p)
 }
 
-// A text in hexadecimal digits.
-fn text(bytes: &[u8], h: Handle, out: &mut [u8], o: usize) -> usize {
-    let mut p = byte(b't', out, o);
-    let n = h.len;
-    let mut i = 0usize;
-    while i < n {
-        p = two_digits(parts::names::at(bytes, h.at, i), out, p);
+// The bytes of a text in hexadecimal digits.
+fn spelt(bytes: &[u8], h: Handle, out: &mut [u8], o: usize) -> usize
+    ensures { λ r. ⌜ Appends (now (out .entry)) (now (out .exit)) o r (all-hex (bytesOf (now (bytes .entry)) h)) ⌝ }
+{
+    let mut p = o;
+    let mut i = 0;
+    while i < h.len {
+        p = two_digits(at(bytes, h.at, i), out, p);
         i += 1;
     }
     p
 }
 
-fn scalar(bytes: &[u8], s: Scalar, out: &mut [u8], o: usize) -> usize {
+fn text(bytes: &[u8], h: Handle, out: &mut [u8], o: usize) -> usize
+    ensures { λ r. ⌜ Appends (now (out .entry)) (now (out .exit)) o r (scalar-literal (paper.text (bytesOf (now (bytes .entry)) h))) ⌝ }
+{
+    let p = byte(b't', out, o);
+    spelt(bytes, h, out, p)
+}
+
+// Any scalar, by its kind.
+pub fn scalar(bytes: &[u8], s: Scalar, out: &mut [u8], o: usize) -> usize
+    ensures { λ r. ⌜ Appends (now (out .entry)) (now (out .exit)) o r (scalar-literal (meaning (now (bytes .entry)) s)) ⌝ }
+{
     match s {
         Scalar::Unknown => byte(b'u', out, o),
         Scalar::Truth(t) => truth(t, out, o),
@@ -65,38 +80,4 @@ fn scalar(bytes: &[u8], s: Scalar, out: &mut [u8], o: usize) -> usize {
         Scalar::Real(n) => signed(b'r', n, out, o),
         Scalar::Text(h) => text(bytes, h, out, o),
     }
-}
-
-// The i-th element, behind a comma if it is not the first.
-fn element(bytes: &[u8], l: List, i: usize, out: &mut [u8], o: usize) -> usize {
-    if List::LIST_LIMIT <= i {
-        return o;
-    }
-    let s = values::get(l, i);
-    if i == 0 {
-        return scalar(bytes, s, out, o);
-    }
-    let p = byte(b',', out, o);
-    scalar(bytes, s, out, p)
-}
-
-fn list(bytes: &[u8], l: List, out: &mut [u8], o: usize) -> usize {
-    let mut p = word(b"l(", out, o);
-    let n = values::size(l);
-    let mut i = 0usize;
-    while i < n {
-        p = element(bytes, l, i, out, p);
-        i += 1;
-    }
-    byte(b')', out, p)
-}
-
-// A value, whose texts stand in these bytes.
-pub fn value(bytes: &[u8], v: Value, out: &mut [u8], o: usize) -> usize {
-    if v.many {
-        let l = v.list;
-        return list(bytes, l, out, o);
-    }
-    let s = v.one;
-    scalar(bytes, s, out, o)
 }

@@ -18,10 +18,10 @@ abbrev pub element-written : List ℕ → Code.List → ℕ → List ℕ
 element-written bs l i = bytes ", " ++ scalar-written (meaning bs (at (l .items) i))
 
 module _ (bs : List ℕ) (l : Code.List) where
-  as-many : length (meaningL bs l) ≡ sizeOf l
+  pub as-many : length (meaningL bs l) ≡ sizeOf l
   as-many = length-map (take (l .n) (l .items)) (held bs)
 
-  element-at : (i : ℕ) → i < sizeOf l → drop i (meaningL bs l) ≡ meaning bs (at (l .items) i) ∷ drop (suc i) (meaningL bs l)
+  pub element-at : (i : ℕ) → i < sizeOf l → drop i (meaningL bs l) ≡ meaning bs (at (l .items) i) ∷ drop (suc i) (meaningL bs l)
   element-at i h =
       let n = length-take (l .n) (l .items) in
       let m = as-many in

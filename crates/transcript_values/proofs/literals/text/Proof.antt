@@ -1,16 +1,11 @@
--- `text` is safe and ends: the measure is how many bytes are left.
-use Prim.Native.Nat.{_-_}
-use mathlib.Core.Path.{_≡_}
-use lib.ListN.{length}
+-- `text`: the letter, and the digits.
+use Rattle.digits.specs.AppendsLaws.{append-then}
 use borrow.Author.Needs.{needs}
 use Rattle.transcript_values.proofs.literals.text.Statement.{statement}
 use Rattle.transcript_values.proofs.literals.text.Tie as tie
 
-abbrev Inv-loop : tie.InvT-loop
-Inv-loop bytes h out₀ o p₀ n i₀ out p i = length out ≡ length out₀
-
-abbrev μ-loop : tie.MeasureT-loop
-μ-loop bytes h out₀ o p₀ n i₀ out p i = n - i
+returns : tie.Need-returns
+returns c = append-then (c .before .before .before .before .before .before .byte .ensures) (c .before .before .spelt .ensures)
 
 pub text-spec : {M : Type 1} → statement M
-text-spec = tie.close (tie.spec Inv-loop μ-loop (λ c κs. search needs) (λ c. search needs) (λ c κs. search needs) (λ c κs. search needs) (λ c. search needs) (λ c. search needs) (λ c. search needs) (λ c. search needs) (λ c. search needs))
+text-spec = tie.close (tie.spec (λ c κs. search needs) (λ c κs. search needs) (λ c. search needs) returns)

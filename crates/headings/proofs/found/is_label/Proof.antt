@@ -1,0 +1,14 @@
+-- `is_label`: by its first byte.
+use Rattle.headings.specs.ColumnsLaws.{no-label, label-by}
+use borrow.Author.Needs.{needs}
+use Rattle.headings.proofs.found.is_label.Statement.{statement}
+use Rattle.headings.proofs.found.is_label.Tie as tie
+
+returns : tie.Need-returns
+returns c = no-label (c .before .args .name .now) (c .if1 .taken)
+
+returns-2 : tie.Need-returns-2
+returns-2 c = label-by (c .before .before .args .name .now) (c .before .if1 .left)
+
+pub is-label-spec : {M : Type 1} → statement M
+is-label-spec = tie.close (tie.spec returns (λ c. search needs) returns-2)

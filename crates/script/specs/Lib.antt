@@ -1,0 +1,5 @@
+pub mod Lexemes
+pub mod LexemesLaws
+pub mod Places
+pub mod PlacesLaws
+pub mod Scripts

@@ -1,0 +1,234 @@
+// One line: its values are added to the guideline as it was loaded, the guideline runs, and the answer is written.
+use crate::joined::Cells;
+use crate::joined::parts_of;
+use crate::joined::plan_of;
+use crate::joined::state_of;
+use field_values::Refusal;
+use limits::DataItems;
+use season_answer::blanks;
+use season_answer::ended;
+use season_answer::item_values;
+use season_answer::labels;
+use season_answer::no_labels;
+use season_answer::reached;
+use season_answer::refused;
+use season_answer::unread;
+use separated::field;
+use series::Ended;
+use state::Plan;
+use state::cell;
+ghost use Rattle.digits.specs.Appends.{Appends};
+ghost use Rattle.headings.specs.Columns.{item-count};
+ghost use Rattle.season_lines.specs.Lines.{unread-line};
+
+// What is the same for all lines: the number of columns, the separator, whether actions are confirmed.
+pub struct Season {
+    pub many: usize,
+    pub separator: u8,
+    pub confirms: bool,
+}
+
+// The first refusal of a line: its number, none if there is none, and the handle of its data item's name.
+struct First {
+    number: u8,
+    name: usize,
+}
+
+// Adds the field `i`: the number of its refusal, which is told, or none.
+fn add_field(
+    plan: &[u32],
+    columns: &[u32],
+    kept: &[u8],
+    ends: &[usize],
+    i: usize,
+    line: u64,
+    texts: &mut [u8],
+    state: &mut [u32],
+) -> First {
+    let d = series::item_of(columns, i);
+    let name = cell(plan, Plan::ITEM_NAME, d);
+    if DataItems::LIMIT <= d {
+        return First {
+            number: Refusal::NONE,
+            name: name,
+        };
+    }
+    let f = field(kept, ends, i);
+    let number = series::add(texts, plan, state, d as u32, f);
+    if number != Refusal::NONE {
+        let declared = blocks::cell(plan, Plan::ITEM_TYPE + d);
+        season_reports::value(line, i, texts, name, number, f, declared);
+    }
+    First {
+        number: number,
+        name: name,
+    }
+}
+
+// The first of two.
+fn earlier(a: First, b: First) -> First {
+    if a.number != Refusal::NONE {
+        return a;
+    }
+    b
+}
+
+// Adds the fields of the first `many` columns.
+fn add_fields(
+    plan: &[u32],
+    columns: &[u32],
+    many: usize,
+    kept: &[u8],
+    ends: &[usize],
+    line: u64,
+    texts: &mut [u8],
+    state: &mut [u32],
+) -> First {
+    let mut r = First {
+        number: Refusal::NONE,
+        name: 0,
+    };
+    let mut i = 0usize;
+    while i < many {
+        let one = add_field(plan, columns, kept, ends, i, line, texts, state);
+        r = earlier(r, one);
+        i += 1;
+    }
+    r
+}
+
+// The answer of a line with a refused value: it did not run.
+fn write_refused(
+    plan: &[u32],
+    texts: &[u8],
+    r: First,
+    separator: u8,
+    out: &mut [u8],
+    o: usize,
+) -> usize {
+    let p = blanks(plan, separator, out, o);
+    refused(r.number, texts, r.name, separator, out, p)
+}
+
+// The answer of a line that ran.
+fn write_ended(
+    plan: &[u32],
+    texts: &[u8],
+    state: &[u32],
+    e: Ended,
+    separator: u8,
+    out: &mut [u8],
+    o: usize,
+) -> usize {
+    let p = item_values(plan, texts, state, separator, out, o);
+    let q = reached(plan, texts, state, separator, out, p);
+    ended(e.ending, e.cycles, separator, out, q)
+}
+
+// The line in these tables, which hold the guideline as it was loaded; its labels are written.
+fn in_tables(
+    parts: &[u32],
+    plan: &[u32],
+    waits: [[bool; 32]; 32],
+    columns: &[u32],
+    kept: &[u8],
+    ends: &[usize],
+    s: Season,
+    line: u64,
+    texts: &mut [u8],
+    state: &mut [u32],
+    out: &mut [u8],
+    o: usize,
+) -> usize {
+    let r = add_fields(plan, columns, s.many, kept, ends, line, texts, state);
+    if r.number != Refusal::NONE {
+        return write_refused(plan, texts, r, s.separator, out, o);
+    }
+    let e = series::run(
+        parts,
+        texts,
+        plan,
+        waits,
+        state,
+        columns,
+        s.many,
+        kept,
+        ends,
+        s.confirms,
+    );
+    write_ended(plan, texts, state, e, s.separator, out, o)
+}
+
+// The same, from a copy of the texts and the state that load left.
+fn in_copies(
+    tables: &[u32],
+    waits: [[bool; 32]; 32],
+    texts: &[u8],
+    columns: &[u32],
+    kept: &[u8],
+    ends: &[usize],
+    s: Season,
+    line: u64,
+    texts_of_line: &mut [u8],
+    state_of_line: &mut [u32],
+    out: &mut [u8],
+    o: usize,
+) -> usize {
+    blocks::copy_bytes(texts, 0, texts_of_line, 0, Cells::TEXTS);
+    blocks::copy_cells(state_of(tables), 0, state_of_line, 0, Cells::STATE);
+    in_tables(
+        parts_of(tables),
+        plan_of(tables),
+        waits,
+        columns,
+        kept,
+        ends,
+        s,
+        line,
+        texts_of_line,
+        state_of_line,
+        out,
+        o,
+    )
+}
+
+// Answers one line.
+pub fn answer(
+    tables: &[u32],
+    waits: [[bool; 32]; 32],
+    texts: &[u8],
+    columns: &[u32],
+    kept: &[u8],
+    ends: &[usize],
+    s: Season,
+    line: u64,
+    out: &mut [u8],
+    o: usize,
+) -> usize {
+    let mut texts_of_line = io::large_buffer();
+    let mut state_of_line = [0u32; Cells::STATE];
+    let p = labels(columns, s.many, kept, ends, s.separator, out, o);
+    in_copies(
+        tables,
+        waits,
+        texts,
+        columns,
+        kept,
+        ends,
+        s,
+        line,
+        &mut texts_of_line,
+        &mut state_of_line,
+        out,
+        p,
+    )
+}
+
+// Answers a line that can't be read.
+pub fn unread_line(plan: &[u32], columns: &[u32], s: Season, out: &mut [u8], o: usize) -> usize
+    ensures { λ r. ⌜ Appends (now (out .entry)) (now (out .exit)) o r (unread-line (now (columns .entry)) (s .many) (item-count (now (plan .entry))) (s .separator)) ⌝ }
+{
+    let p = no_labels(columns, s.many, s.separator, out, o);
+    let q = blanks(plan, s.separator, out, p);
+    unread(s.separator, out, q)
+}

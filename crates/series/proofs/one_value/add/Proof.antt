@@ -1,0 +1,19 @@
+-- `add`: nothing where the field is empty.
+use Rattle.series.specs.Series.{no-field}
+use borrow.Author.Needs.{needs}
+use Rattle.series.proofs.one_value.add.Statement.{statement}
+use Rattle.series.proofs.one_value.add.Tie as tie
+
+returns : tie.Need-returns
+returns c = no-field (c .if1 .taken)
+
+returns-2 : tie.Need-returns-2
+returns-2 c = c .before .before .before .before .before .before .before .through .ensures
+
+pub add-spec : {M : Type 1} → statement M
+add-spec =
+    tie.close
+    (tie.spec
+    returns
+    (λ c. search needs) (λ c. search needs) (λ c. search needs) (λ c κs. search needs) (λ c. search needs) (λ c. search needs)
+    returns-2)

@@ -1,0 +1,45 @@
+-- What the fields of a line do to the tables: by which public calls they change. Definitions only.
+use mathlib.Core.Path.{_≡_}
+use mathlib.Core.Bool.{Bool, true, false, cond, _||_}
+use mathlib.Core.List.{List}
+use Prim.Native.Nat.{ℕ, _+_, _-_, _<_}
+use lib.IntN.{ℤ}
+use lib.Dec.{eqb}
+use lib.ListN.{getD, length}
+use Rattle.replying.specs.declared.Reply.{Reply}
+use Rattle.replying.specs.declared.Reply.the-variants.{Done, Refused}
+use Rattle.adding.specs.Add.{Adds}
+use Rattle.separated.specs.Records.{fieldOf}
+use Rattle.field_values.specs.Reading.{ReadField}
+use Rattle.asked.specs.Asked.{asked}
+
+-- the data item of the column i, which has its number and one; 64, which is none, for a label
+abbrev pub item-of : List ℕ → ℕ → ℕ
+item-of columns i = cond (eqb (getD columns (0 + i) 0) 0) 64 (getD columns (0 + i) 0 - 1)
+
+-- the number of a refusal, or 0
+abbrev pub number-of : Reply → ℕ
+number-of Done = 0
+number-of (Refused n) = n
+
+-- the call of add with these cells: b the text bytes, f the plan, s the state
+abbrev pub CellsAdded : ℕ → List ℕ → List ℤ → List ℕ → List ℕ → List ℕ → List ℕ → List ℕ → List ℕ → ℕ → Type 0
+CellsAdded item t n v b f s b′ s′ r = (q : Reply) × Adds item t n v b f s b′ s′ q × (r ≡ number-of q)
+
+-- a field as the value of a data item: nothing, if it is empty; refused as it is read; or what a call of add replies
+pub data FieldAdded (item : ℕ) (field b f s : List ℕ) : List ℕ → List ℕ → ℕ → Type 0 where
+  no-field : length field ≡ 0 → FieldAdded item field b f s b s 0
+  not-read : {r : ℕ} → ReadField (getD f (1320 + item) 0) field r → (r ≡ 0 → ⊥) → FieldAdded item field b f s b s r
+  called : (t : List ℕ) (n : List ℤ) (v : List ℕ) {b′ s′ : List ℕ} {r : ℕ} → ReadField (getD f (1320 + item) 0) field 0 → CellsAdded item t n v b f s b′ s′ r → FieldAdded item field b f s b′ s′ r
+
+-- the field i, where it answers an enquiry: whether its value was taken
+pub data Answered (columns kept ends f : List ℕ) (i : ℕ) (b s : List ℕ) : List ℕ → List ℕ → Bool → Type 0 where
+  passed : Answered columns kept ends f i b s b s false
+  given : {b′ s′ : List ℕ} {r : ℕ} → item-of columns i < 64 → asked f s (item-of columns i) ≡ true → (length (fieldOf kept ends i) ≡ 0 → ⊥)
+      → FieldAdded (item-of columns i) (fieldOf kept ends i) b f s b′ s′ r → Answered columns kept ends f i b s b′ s′ (eqb r 0)
+
+-- the first n fields, one after the other: whether one was taken
+pub data AllAnswered (columns kept ends f b s : List ℕ) : ℕ → List ℕ → List ℕ → Bool → Type 0 where
+  none-yet : AllAnswered columns kept ends f b s 0 b s false
+  one-more : {i : ℕ} {b′ s′ b″ s″ : List ℕ} {t u : Bool} → AllAnswered columns kept ends f b s i b′ s′ t → Answered columns kept ends f i b′ s′ b″ s″ u
+      → AllAnswered columns kept ends f b s (i + 1) b″ s″ (t || u)
