@@ -86,22 +86,22 @@ fn refusal(text: &[u8]) -> Reply
 pub fn load(
     text: &[u8],
     rows: &mut [u32],
-    cells: &mut [u32],
+    parts: &mut [u32],
     plan: &mut [u32],
     waits: &mut WaitTable,
-    bytes: &mut [u8],
+    texts: &mut [u8],
     state: &mut [u32],
 ) -> Reply
-    ensures { λ r. ⌜ Replied (now (text .entry)) (lent (now (rows .entry)) (now (cells .entry)) (now (plan .entry)) (now (waits .entry)) (now (bytes .entry)) (now (state .entry))) (lent (now (rows .exit)) (now (cells .exit)) (now (plan .exit)) (now (waits .exit)) (now (bytes .exit)) (now (state .exit))) r ⌝ }
+    ensures { λ r. ⌜ Replied (now (text .entry)) (lent (now (rows .entry)) (now (parts .entry)) (now (plan .entry)) (now (waits .entry)) (now (texts .entry)) (now (state .entry))) (lent (now (rows .exit)) (now (parts .exit)) (now (plan .exit)) (now (waits .exit)) (now (texts .exit)) (now (state .exit))) r ⌝ }
 {
-    if is_short(plan, bytes, state) {
-        stages::blank(rows, cells, bytes);
+    if is_short(plan, texts, state) {
+        stages::blank(rows, parts, texts);
         empty(plan, waits, state);
         return refusal(text);
     }
-    match answering::judge(text, rows, cells, bytes) {
+    match answering::judge(text, rows, parts, texts) {
         Answer::Loads(n) => {
-            prepare(rows, n, bytes, plan, waits, state);
+            prepare(rows, n, texts, plan, waits, state);
             Reply::Done
         }
         Answer::Refused(number, place) => {

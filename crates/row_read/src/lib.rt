@@ -114,12 +114,12 @@ fn readable(s: &[u32]) -> bool
 }
 
 // Reads a row: refused with 7 where nothing is loaded.
-pub fn read(f: &[u32], w: WaitTable, s: &[u32], kind: u64, number: u64, property: u64) -> Row
-    ensures { λ r. ⌜ ReadsRow kind number property (now (f .entry)) w (now (s .entry)) r ⌝ }
+pub fn read(plan: &[u32], waits: WaitTable, state: &[u32], kind: u64, number: u64, property: u64) -> Row
+    ensures { λ r. ⌜ ReadsRow kind number property (now (plan .entry)) waits (now (state .entry)) r ⌝ }
 {
-    if readable(s) {
+    if readable(state) {
         if property < Properties::NUMBER {
-            return of_kind(f, w, s, kind, number, property);
+            return of_kind(plan, waits, state, kind, number, property);
         }
         return row_shown::plain(Shown::NoRow);
     }

@@ -74,14 +74,14 @@ fn step(f: &[u32], b: &[u8], s: &mut [u32], name: &[u8], t: usize)
 }
 
 // Sends a trigger: refused with 7, or with 6 where its text is beyond the limits. One that no task has is done.
-pub fn trigger(f: &[u32], b: &[u8], s: &mut [u32], name: &[u8]) -> Reply
-    ensures { λ r. ⌜ Triggers (now (name .entry)) (now (b .entry)) (now (f .entry)) (now (s .entry)) (now (s .exit)) r ⌝ }
+pub fn trigger(texts: &[u8], plan: &[u32], state: &mut [u32], name: &[u8]) -> Reply
+    ensures { λ r. ⌜ Triggers (now (name .entry)) (now (texts .entry)) (now (plan .entry)) (now (state .entry)) (now (state .exit)) r ⌝ }
 {
-    if replying::ready(s) {
+    if replying::ready(state) {
         if given::small_text(name, 0, name.len()) {
             let mut t: usize = 0;
             while t < Tasks::LIMIT {
-                step(f, b, s, name, t);
+                step(plan, texts, state, name, t);
                 t += 1;
             }
             return Reply::Done;

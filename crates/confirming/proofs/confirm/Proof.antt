@@ -8,22 +8,22 @@ use Rattle.confirming.proofs.confirm.Tie as tie
 returns : tie.Need-returns
 returns c =
     let a = c .before .before .before .before .before .before .before .before .before .before .before .before .args in
-    confirm-set (a .task) (a .f .now) (a .s .now) (c .before .before .before .before .before .before .before .before .ready .ensures) (c .before .before .before .before .before .before .before .if1 .taken) (c .before .before .before .before .before .before .cell .ensures) (c .before .before .before .before .before .if2 .taken) (c .before .before .before .before .if3 .taken) (c .before .before .make-true .ensures)
+    confirm-set (a .task) (a .plan .now) (a .state .now) (c .before .before .before .before .before .before .before .before .ready .ensures) (c .before .before .before .before .before .before .before .if1 .taken) (c .before .before .before .before .before .before .cell .ensures) (c .before .before .before .before .before .if2 .taken) (c .before .before .before .before .if3 .taken) (c .before .before .make-true .ensures)
 
 returns-2 : tie.Need-returns-2
 returns-2 c =
     let a = c .before .before .before .before .before .before .before .before .args in
-    confirm-none (a .task) (a .f .now) (a .s .now) (c .before .before .before .before .ready .ensures) (c .before .before .before .if1 .taken) (c .before .before .cell .ensures) (λ z. (let l = z .1 in omega arith))
+    confirm-none (a .task) (a .plan .now) (a .state .now) (c .before .before .before .before .ready .ensures) (c .before .before .before .if1 .taken) (c .before .before .cell .ensures) (λ z. (let l = z .1 in omega arith))
 
 returns-3 : tie.Need-returns-3
 returns-3 c =
     let a = c .before .before .before .before .before .before .before .args in
-    confirm-none (a .task) (a .f .now) (a .s .now) (c .before .before .before .ready .ensures) (c .before .before .if1 .taken) (c .before .cell .ensures) (λ z. (let l = z .0 in omega arith))
+    confirm-none (a .task) (a .plan .now) (a .state .now) (c .before .before .before .ready .ensures) (c .before .before .if1 .taken) (c .before .cell .ensures) (λ z. (let l = z .0 in omega arith))
 
 returns-4 : tie.Need-returns-4
 returns-4 c =
     let a = c .before .before .before .before .before .args in
-    confirm-unready (a .task) (a .f .now) (a .s .now) (c .before .ready .ensures) (c .if1 .left)
+    confirm-unready (a .task) (a .plan .now) (a .state .now) (c .before .ready .ensures) (c .if1 .left)
 
 pub confirm-spec : {M : Type 1} → statement M
 confirm-spec =

@@ -8,17 +8,17 @@ use Rattle.row_read.proofs.read.Tie as tie
 returns : tie.Need-returns
 returns c =
     let a = c .before .before .before .before .before .before .args in
-    read-row-of (a .kind) (a .number) (a .property) (a .f .now) (a .w) (a .s .now) (c .of-kind .result) (c .before .before .before .readable .ensures) (c .before .before .if1 .taken) (c .before .if2 .taken) (c .of-kind .ensures)
+    read-row-of (a .kind) (a .number) (a .property) (a .plan .now) (a .waits) (a .state .now) (c .of-kind .result) (c .before .before .before .readable .ensures) (c .before .before .if1 .taken) (c .before .if2 .taken) (c .of-kind .ensures)
 
 returns-2 : tie.Need-returns-2
 returns-2 c =
     let a = c .before .before .before .before .before .before .args in
-    read-none (a .kind) (a .number) (a .property) (a .f .now) (a .w) (a .s .now) (c .plain .result) (c .before .before .before .readable .ensures) (c .before .before .if1 .taken) (λ l. omega arith) (c .plain .ensures)
+    read-none (a .kind) (a .number) (a .property) (a .plan .now) (a .waits) (a .state .now) (c .plain .result) (c .before .before .before .readable .ensures) (c .before .before .if1 .taken) (λ l. omega arith) (c .plain .ensures)
 
 returns-3 : tie.Need-returns-3
 returns-3 c =
     let a = c .before .before .before .before .before .args in
-    read-refused (a .kind) (a .number) (a .property) (a .f .now) (a .w) (a .s .now) (c .plain2 .result) (c .before .before .readable .ensures) (c .before .if1 .left) (c .plain2 .ensures)
+    read-refused (a .kind) (a .number) (a .property) (a .plan .now) (a .waits) (a .state .now) (c .plain2 .result) (c .before .before .readable .ensures) (c .before .if1 .left) (c .plain2 .ensures)
 
 pub read-spec : {M : Type 1} → statement M
 read-spec =

@@ -9,20 +9,20 @@ use Rattle.triggering.proofs.trigger.Statement.{statement}
 use Rattle.triggering.proofs.trigger.Tie as tie
 
 abbrev Inv-loop : tie.InvT-loop
-Inv-loop f b s₀ name t₀ s t = (t ≤ 32) × Sent f b name s₀ t s
+Inv-loop b f s₀ name t₀ s t = (t ≤ 32) × Sent f b name s₀ t s
 
 abbrev μ-loop : tie.MeasureT-loop
-μ-loop f b s₀ name t₀ s t = 32 - t
+μ-loop b f s₀ name t₀ s t = 32 - t
 
 loop-holds : tie.Need-loop-holds Inv-loop μ-loop
 loop-holds c =
     let a = c .before .before .before .before .before .before .before .before .before .args in
-    (omega arith, sent-none (a .f .now) (a .b .now) (a .name .now) (a .s .now))
+    (omega arith, sent-none (a .plan .now) (a .texts .now) (a .name .now) (a .state .now))
 
 loop-again : tie.Need-loop-again Inv-loop μ-loop
 loop-again c =
     let a = c .before .before .before .before .before .before .before .before .before .before .before .before .before .before .before .args in
-    (omega arith, sent-more (a .f .now) (a .b .now) (a .name .now) (a .s .now) (c .before .before .before .before .before .loop .t) (c .before .before .before .before .before .loop .s) (c .before .before .step .last .1 .1 .0) (omega arith) (c .before .before .step .ensures) (c .before .before .before .before .before .loop .inv .1))
+    (omega arith, sent-more (a .plan .now) (a .texts .now) (a .name .now) (a .state .now) (c .before .before .before .before .before .loop .t) (c .before .before .before .before .before .loop .state) (c .before .before .step .last .1 .1 .0) (omega arith) (c .before .before .step .ensures) (c .before .before .before .before .before .loop .inv .1))
 
 same-length : tie.Need-same-length Inv-loop μ-loop
 same-length c = c .before .loop .inv .1 .size
@@ -30,17 +30,17 @@ same-length c = c .before .loop .inv .1 .size
 returns : tie.Need-returns Inv-loop μ-loop
 returns c =
     let a = c .before .before .before .before .before .before .before .before .before .before .before .args in
-    trigger-sent (a .name .now) (a .b .now) (a .f .now) (a .s .now) (c .before .before .before .before .before .ready .ensures) (c .before .before .before .before .if1 .taken) (c .before .before .before .small-text .ensures) (c .before .before .if2 .taken) (sent-all (a .f .now) (a .b .now) (a .name .now) (a .s .now) (c .before .loop .t) (omega arith) (c .before .loop .inv .1))
+    trigger-sent (a .name .now) (a .texts .now) (a .plan .now) (a .state .now) (c .before .before .before .before .before .ready .ensures) (c .before .before .before .before .if1 .taken) (c .before .before .before .small-text .ensures) (c .before .before .if2 .taken) (sent-all (a .plan .now) (a .texts .now) (a .name .now) (a .state .now) (c .before .loop .t) (omega arith) (c .before .loop .inv .1))
 
 returns-2 : tie.Need-returns-2 Inv-loop μ-loop
 returns-2 c =
     let a = c .before .before .before .before .before .before .before .before .before .args in
-    trigger-large (a .name .now) (a .b .now) (a .f .now) (a .s .now) (c .before .before .before .ready .ensures) (c .before .before .if1 .taken) (c .before .small-text .ensures) (c .if2 .left)
+    trigger-large (a .name .now) (a .texts .now) (a .plan .now) (a .state .now) (c .before .before .before .ready .ensures) (c .before .before .if1 .taken) (c .before .small-text .ensures) (c .if2 .left)
 
 returns-3 : tie.Need-returns-3 Inv-loop μ-loop
 returns-3 c =
     let a = c .before .before .before .before .before .before .before .args in
-    trigger-unready (a .name .now) (a .b .now) (a .f .now) (a .s .now) (c .before .ready .ensures) (c .if1 .left)
+    trigger-unready (a .name .now) (a .texts .now) (a .plan .now) (a .state .now) (c .before .ready .ensures) (c .if1 .left)
 
 pub trigger-spec : {M : Type 1} → statement M
 trigger-spec =
