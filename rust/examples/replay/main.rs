@@ -9,7 +9,7 @@ use std::io::{self, Read, Write};
 
 use schotterei::{Change, Guideline, Refusal};
 
-use script::Call;
+use script::{split, Call};
 
 /// What is in a row of the Changes table before a run.
 const FILLED: u32 = 0xdead_beef;
@@ -21,9 +21,9 @@ fn main() -> Result<(), Box<dyn Error>> {
     let mut out = io::BufWriter::new(io::stdout().lock());
     let mut rest = batch.as_slice();
     while !rest.is_empty() {
-        let (length, behind) = rest.split_first_chunk::<4>().ok_or("a length is cut off")?;
-        let length = u32::from_be_bytes(*length) as usize;
-        let (script, behind) = behind.split_at_checked(length).ok_or("a script is cut off")?;
+        let (length, behind) = split(rest, 4).ok_or("a length is cut off")?;
+        let length = u32::from_be_bytes(length.try_into()?) as usize;
+        let (script, behind) = split(behind, length).ok_or("a script is cut off")?;
         out.write_all(answers(script)?.as_bytes())?;
         rest = behind;
     }

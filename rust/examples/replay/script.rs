@@ -26,15 +26,25 @@ pub fn calls(mut script: &[u8]) -> Result<Vec<Call>, String> {
     Ok(calls)
 }
 
+/// The first bytes of a text, and those behind them, if there are so many.
+pub fn split(text: &[u8], length: usize) -> Option<(&[u8], &[u8])> {
+    (length <= text.len()).then(|| text.split_at(length))
+}
+
 /// The first call of a script, and what comes after it.
 fn next_call(script: &[u8]) -> Result<(Call, &[u8]), String> {
     let end = script.iter().position(|byte| *byte == b'\n').ok_or("the last line does not end")?;
     let line = std::str::from_utf8(&script[..end]).map_err(|_| "a line is not of characters")?;
     let rest = &script[end + 1..];
-    let Some(length) = line.strip_prefix("load ") else {
-        return Ok((call(line)?, rest));
-    };
-    let (text, rest) = rest.split_at_checked(number(length)?).ok_or("a guideline is cut off")?;
+    match line.strip_prefix("load ") {
+        Some(length) => load(number(length)?, rest),
+        None => Ok((call(line)?, rest)),
+    }
+}
+
+/// The guideline of so many bytes that stands behind its line, and what comes after it.
+fn load(length: usize, rest: &[u8]) -> Result<(Call, &[u8]), String> {
+    let (text, rest) = split(rest, length).ok_or("a guideline is cut off")?;
     let rest = rest.strip_prefix(b"\n").ok_or("no newline follows a guideline")?;
     Ok((Call::Load(text.to_vec()), rest))
 }
@@ -73,18 +83,24 @@ fn bytes(word: &str) -> Result<Vec<u8>, String> {
 }
 
 fn given(word: &str) -> Result<Value, String> {
-    let Some(list) = word.strip_prefix('l') else {
-        return scalar(word).map(Value::One);
-    };
+    match word.strip_prefix('l') {
+        Some(list) => elements(list).map(Value::List),
+        None => scalar(word).map(Value::One),
+    }
+}
+
+/// The elements of a list, between its parentheses.
+fn elements(list: &str) -> Result<Vec<Scalar>, String> {
     let inner = list.strip_prefix('(').and_then(|list| list.strip_suffix(')'));
-    match inner.ok_or(format!("no list: {word}"))? {
-        "" => Ok(Value::List(Vec::new())),
-        inner => Ok(Value::List(inner.split(',').map(scalar).collect::<Result<_, _>>()?)),
+    match inner.ok_or(format!("no list: l{list}"))? {
+        "" => Ok(Vec::new()),
+        inner => inner.split(',').map(scalar).collect(),
     }
 }
 
 fn scalar(word: &str) -> Result<Scalar, String> {
-    let (letter, rest) = word.split_at_checked(1).ok_or(format!("no value: {word}"))?;
+    let parts = word.get(..1).zip(word.get(1..));
+    let (letter, rest) = parts.ok_or(format!("no value: {word}"))?;
     Ok(match (letter, rest) {
         ("u", "") => Scalar::Unknown,
         ("b", "0") => Scalar::Truth(false),
