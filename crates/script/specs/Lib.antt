@@ -3,3 +3,6 @@ pub mod LexemesLaws
 pub mod Places
 pub mod PlacesLaws
 pub mod Scripts
+pub mod Values
+pub mod ValuesLaws
+pub mod Worked

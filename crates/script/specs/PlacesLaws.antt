@@ -13,7 +13,7 @@ use Rattle.script.specs.declared.calls.Line.{Line}
 use Rattle.script.specs.declared.calls.Call.{Call}
 use Rattle.script.specs.declared.calls.Call.the-variants.{Load, Add, Trigger}
 use Rattle.script.specs.Lexemes.{nowhere, after-one, behind-word, number-at, text-bytes, kept-long}
-use Rattle.script.specs.Places.{or-else, up-to, behind-text, behind-letter, behind-element, at-element, behind-elements, behind-value, choose, no-line, newline, if-stands, load-by, run-by, add-by, row-by, row-behind, line-by, line-of}
+use Rattle.script.specs.Places.{or-else, behind-text, behind-letter, behind-element, at-element, behind-elements, behind-value, choose, no-line, newline, if-stands, load-by, run-by, add-by, row-by, row-behind, line-by, line-of}
 
 -- ---- the first of two places
 
@@ -22,15 +22,6 @@ first-place {p} {m} {r} q e ne f = f ∙ subst (λ (x : ℕ). p ≡ or-else x q)
 
 pub second-place : {p m : ℕ} {r q : ℕ} → p ≡ m → p ≡ nowhere → r ≡ q → r ≡ or-else m q
 second-place {p} {m} {r} {q} e h f = f ∙ subst (λ (x : ℕ). q ≡ or-else x q) e (simp (eq-eqb p nowhere h))
-
--- ---- numbers
-
-module _ (limit : ℕ) {d m : Number} (e : d ≡ m) where
-  pub number-past : limit < d .value → {r : ℕ} → r ≡ nowhere → r ≡ up-to limit m
-  number-past h {r} f = f ∙ subst (λ (x : Number). nowhere ≡ up-to limit x) e (simp (lt-ltb limit (d .value) h))
-
-  pub number-is : d .value ≤ limit → d .next ≡ up-to limit m
-  number-is h = subst (λ (x : Number). d .next ≡ up-to limit x) e (simp (le-ltb limit (d .value) h))
 
 -- ---- elements
 
@@ -67,6 +58,11 @@ unfolding behind-elements
 elements-closed s zero at e f = refl
 elements-closed s (suc k) at e f = simp (eq-eqb (getD s at 0) 41 (sym e ∙ f))
 
+-- the first of twenty is the one before which none is
+pub first-of-twenty : (n : ℕ) → n < 20 → eqb (20 - (n + 1)) 19 ≡ eqb n 0
+first-of-twenty zero h = refl
+first-of-twenty (suc n) h = ne-eqb (20 - (suc n + 1)) 19 (λ z. omega arith) ∙ sym (ne-eqb (suc n) 0 (λ z. omega arith))
+
 pub elements-more : (s : List ℕ) (n at : ℕ) {b p : ℕ} → n < 20 → b ≡ getD s at 0 → (b ≡ 41 → ⊥) → p ≡ behind-element s (at-element s (eqb n 0) at)
     → behind-elements s (20 - n) at ≡ behind-elements s (20 - (n + 1)) p
 unfolding behind-elements
@@ -75,11 +71,7 @@ elements-more s n at {b} {p} h e ne f =
     let other : getD s at 0 ≡ 41 → ⊥ = λ z. ne (e ∙ z) in
     ap (λ (m : ℕ). behind-elements s m at) k
     ∙ simp (ne-eqb (getD s at 0) 41 other)
-    (ap (λ (x : ℕ). behind-elements s (20 - (n + 1)) x) (ap (λ (t : Bool). behind-element s (at-element s t at)) (first n h) ∙ sym f))
-  where
-    first : (n : ℕ) → n < 20 → eqb (20 - (n + 1)) 19 ≡ eqb n 0
-    first zero h = refl
-    first (suc n) h = ne-eqb (20 - (suc n + 1)) 19 (λ z. omega arith) ∙ sym (ne-eqb (suc n) 0 (λ z. omega arith))
+    (ap (λ (x : ℕ). behind-elements s (20 - (n + 1)) x) (ap (λ (t : Bool). behind-element s (at-element s t at)) (first-of-twenty n h) ∙ sym f))
 
 pub elements-end : (s : List ℕ) (n at : ℕ) → 20 ≤ n → behind-word s at (bytes ")") ≡ behind-elements s (20 - n) at
 unfolding behind-elements

@@ -7,7 +7,9 @@ use crate::lexemes::text_at;
 use crate::values::value;
 use parts::byte;
 ghost use mathlib.Core.Path.{_≡_};
+ghost use Rattle.script.specs.Lexemes.{number-at};
 ghost use Rattle.script.specs.Places as places;
+ghost use Rattle.script.specs.Values.{ValuePut, trigger-in, time-or-trigger-in, LineRead};
 
 // The greatest numbers that a script has.
 const WIDE: u64 = 9_223_372_036_854_775_807;
@@ -96,7 +98,7 @@ fn confirm(s: &[u8], at: usize) -> Line
 }
 
 fn add(s: &[u8], at: usize, tags: &mut [u32], numbers: &mut [i64], bytes: &mut [u8]) -> Line
-    ensures { λ r. ⌜ r ≡ places.add-line (now (s .entry)) at ⌝ }
+    ensures { λ r. ⌜ ValuePut (now (s .entry)) (number-at (now (s .entry)) at 4294967295 32 .next) (now (tags .entry)) (now (numbers .entry)) (now (bytes .entry)) (now (tags .exit)) (now (numbers .exit)) (now (bytes .exit)) × (r ≡ places.add-line (now (s .entry)) at) ⌝ }
 {
     let item = number_at(s, at, NARROW, b' ');
     let end = value(s, item.next, tags, numbers, bytes);
@@ -107,7 +109,7 @@ fn add(s: &[u8], at: usize, tags: &mut [u32], numbers: &mut [i64], bytes: &mut [
 }
 
 fn trigger(s: &[u8], at: usize, bytes: &mut [u8]) -> Line
-    ensures { λ r. ⌜ r ≡ places.trigger-line (now (s .entry)) at ⌝ }
+    ensures { λ r. ⌜ (now (bytes .exit) ≡ trigger-in (now (s .entry)) at (now (bytes .entry))) × (r ≡ places.trigger-line (now (s .entry)) at) ⌝ }
 {
     let none = behind(s, at, b"-\n");
     if none != NOWHERE {
@@ -166,7 +168,7 @@ fn run_or_row(s: &[u8], at: usize) -> Line
 }
 
 fn time_or_trigger(s: &[u8], at: usize, bytes: &mut [u8]) -> Line
-    ensures { λ r. ⌜ r ≡ places.time-or-trigger (now (s .entry)) at ⌝ }
+    ensures { λ r. ⌜ (now (bytes .exit) ≡ time-or-trigger-in (now (s .entry)) at (now (bytes .entry))) × (r ≡ places.time-or-trigger (now (s .entry)) at) ⌝ }
 {
     let p = behind(s, at, b"ime ");
     if p == NOWHERE {
@@ -175,9 +177,9 @@ fn time_or_trigger(s: &[u8], at: usize, bytes: &mut [u8]) -> Line
     time(s, p)
 }
 
-// The line that begins here. What it is given goes to cells and bytes that are blank.
+// The line that begins here. What it is given goes to cells and bytes.
 pub fn line_at(s: &[u8], at: usize, tags: &mut [u32], numbers: &mut [i64], bytes: &mut [u8]) -> Line
-    ensures { λ r. ⌜ r ≡ places.line-of (now (s .entry)) at ⌝ }
+    ensures { λ r. ⌜ LineRead (now (s .entry)) at (now (tags .entry)) (now (numbers .entry)) (now (bytes .entry)) (now (tags .exit)) (now (numbers .exit)) (now (bytes .exit)) r ⌝ }
 {
     let p = after(s, at);
     match byte(s, at) {

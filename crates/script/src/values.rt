@@ -1,6 +1,6 @@
 // Values, into tags, numbers and bytes as the call that adds a value is given them: first the shape, then the elements, with texts by their handles.
 use crate::lexemes::NOWHERE;
-use crate::lexemes::Text;
+use crate::lexemes::Number;
 use crate::lexemes::after;
 use crate::lexemes::behind;
 use crate::lexemes::digits;
@@ -9,11 +9,15 @@ use blocks::put_cell;
 use parts::byte;
 ghost use mathlib.Core.Path.{_≡_};
 ghost use mathlib.Core.Bool.{Bool};
-ghost use Prim.Native.Nat.{_<_, _≤_};
+ghost use mathlib.Core.List.{[], _∷_};
+ghost use Prim.Native.Nat.{_+_, _*_, _<_, _≤_};
 ghost use lib.Dec.{eqb};
+ghost use lib.IntN.{pos, negℤ};
+ghost use lib.ListN.{set, length};
 ghost use Rattle.paper_expressions.specs.Bytes.{bytes as bytesOf};
 ghost use Rattle.script.specs.Lexemes.{nowhere, behind-word, digits-at};
 ghost use Rattle.script.specs.Places.{behind-truth, up-to, behind-signed, behind-text, behind-element, at-element, behind-elements, behind-value};
+ghost use Rattle.script.specs.Values.{Told, truth-number, with-minus, signed-number, text-number, text-in, element-tag, element-number, element-bytes, places-from, ElementPut, Filled, ValuePut};
 
 // The most that a script has of each.
 pub struct Given {}
@@ -57,7 +61,7 @@ impl Element {
 }
 
 fn truth(s: &[u8], at: usize) -> Element
-    ensures { λ r. ⌜ r .next ≡ behind-truth (now (s .entry)) at ⌝ }
+    ensures { λ r. ⌜ Told r 1 (truth-number (now (s .entry)) at) (behind-truth (now (s .entry)) at) ⌝ }
 {
     let p = behind(s, at, b"0");
     if p != NOWHERE {
@@ -77,12 +81,15 @@ fn truth(s: &[u8], at: usize) -> Element
 // A number below zero.
 fn negative(n: u64) -> i64
     requires { ⌜ n ≤ 4611686018427387903 ⌝ }
+    ensures { λ r. ⌜ r ≡ negℤ (pos n) ⌝ }
 {
     0 - n as i64
 }
 
 // A number with its sign; no script has one beyond the greatest.
-fn whole(minus: bool, n: u64) -> i64 {
+fn whole(minus: bool, n: u64) -> i64
+    ensures { λ r. ⌜ r ≡ with-minus minus n ⌝ }
+{
     if Given::REAL < n {
         return 0;
     }
@@ -94,7 +101,7 @@ fn whole(minus: bool, n: u64) -> i64 {
 
 // A number with its sign, up to its limit.
 fn signed(s: &[u8], at: usize, tag: u32, limit: u64) -> Element
-    ensures { λ r. ⌜ r .next ≡ behind-signed (now (s .entry)) at limit ⌝ }
+    ensures { λ r. ⌜ Told r tag (signed-number (now (s .entry)) at) (behind-signed (now (s .entry)) at limit) ⌝ }
 {
     let p = behind(s, at, b"-");
     if p == NOWHERE {
@@ -104,21 +111,28 @@ fn signed(s: &[u8], at: usize, tag: u32, limit: u64) -> Element
 }
 
 fn unsigned(s: &[u8], at: usize, tag: u32, limit: u64, minus: bool) -> Element
-    ensures { λ r. ⌜ r .next ≡ up-to limit (digits-at (now (s .entry)) at) ⌝ }
+    ensures { λ r. ⌜ Told r tag (with-minus minus (digits-at (now (s .entry)) at .value)) (up-to limit (digits-at (now (s .entry)) at)) ⌝ }
 {
     let d = digits(s, at);
-    if limit < d.value {
-        return nothing();
-    }
     Element {
         tag: tag,
         number: whole(minus, d.value),
-        next: d.next,
+        next: within(limit, d),
     }
 }
 
+// The place behind a number up to its limit.
+fn within(limit: u64, d: Number) -> usize
+    ensures { λ r. ⌜ r ≡ up-to limit d ⌝ }
+{
+    if limit < d.value {
+        return NOWHERE;
+    }
+    d.next
+}
+
 fn nothing() -> Element
-    ensures { λ r. ⌜ r .next ≡ nowhere ⌝ }
+    ensures { λ r. ⌜ Told r 0 (pos 0) nowhere ⌝ }
 {
     Element {
         tag: Element::UNKNOWN,
@@ -130,7 +144,7 @@ fn nothing() -> Element
 // The text of the i-th element, to its place among the bytes.
 fn spelt(s: &[u8], at: usize, bytes: &mut [u8], i: usize) -> Element
     requires { ⌜ i < 20 ⌝ }
-    ensures { λ r. ⌜ r .next ≡ behind-text (now (s .entry)) at ⌝ }
+    ensures { λ r. ⌜ Told r 4 (text-number (now (s .entry)) at i) (behind-text (now (s .entry)) at) × (now (bytes .exit) ≡ text-in (now (s .entry)) at i (now (bytes .entry))) ⌝ }
 {
     let place = Given::TEXT * i;
     let t = text_at(s, at, bytes, place);
@@ -142,20 +156,17 @@ fn spelt(s: &[u8], at: usize, bytes: &mut [u8], i: usize) -> Element
 }
 
 // The handle of a text of `n` bytes at a place.
-fn handle(place: usize, n: usize) -> i64 {
-    if Given::BYTES < place {
-        return 0;
-    }
-    if Text::KEPT < n {
-        return 0;
-    }
+fn handle(place: usize, n: usize) -> i64
+    requires { ⌜ (place ≤ 1280) × (n ≤ 63) ⌝ }
+    ensures { λ r. ⌜ r ≡ pos (place * 64 + n) ⌝ }
+{
     (place * Given::TEXT + n) as i64
 }
 
 // The i-th element.
 fn element_at(s: &[u8], at: usize, bytes: &mut [u8], i: usize) -> Element
     requires { ⌜ i < 20 ⌝ }
-    ensures { λ r. ⌜ r .next ≡ behind-element (now (s .entry)) at ⌝ }
+    ensures { λ r. ⌜ Told r (element-tag (now (s .entry)) at) (element-number (now (s .entry)) at i) (behind-element (now (s .entry)) at) × (now (bytes .exit) ≡ element-bytes (now (s .entry)) at i (now (bytes .entry))) ⌝ }
 {
     let p = after(s, at);
     match byte(s, at) {
@@ -173,7 +184,9 @@ fn element_at(s: &[u8], at: usize, bytes: &mut [u8], i: usize) -> Element
 }
 
 // The number of an element.
-fn put_number(numbers: &mut [i64], i: usize, n: i64) {
+fn put_number(numbers: &mut [i64], i: usize, n: i64)
+    ensures { λ _. ⌜ now (numbers .exit) ≡ set (now (numbers .entry)) i n ⌝ }
+{
     if i < numbers.len() {
         numbers[i] = n;
     }
@@ -189,7 +202,7 @@ fn put_element(
     i: usize,
 ) -> usize
     requires { ⌜ i < 20 ⌝ }
-    ensures { λ r. ⌜ r ≡ behind-element (now (s .entry)) at ⌝ }
+    ensures { λ r. ⌜ ElementPut (now (s .entry)) at i (now (tags .entry)) (now (numbers .entry)) (now (bytes .entry)) (now (tags .exit)) (now (numbers .exit)) (now (bytes .exit)) × (r ≡ behind-element (now (s .entry)) at) ⌝ }
 {
     let e = element_at(s, at, bytes, i);
     put_cell(tags, 1 + i, e.tag);
@@ -207,7 +220,7 @@ fn next_element(
     i: usize,
 ) -> usize
     requires { ⌜ i < 20 ⌝ }
-    ensures { λ r. ⌜ r ≡ behind-element (now (s .entry)) (at-element (now (s .entry)) (eqb i 0) at) ⌝ }
+    ensures { λ r. ⌜ ElementPut (now (s .entry)) (at-element (now (s .entry)) (eqb i 0) at) i (now (tags .entry)) (now (numbers .entry)) (now (bytes .entry)) (now (tags .exit)) (now (numbers .exit)) (now (bytes .exit)) × (r ≡ behind-element (now (s .entry)) (at-element (now (s .entry)) (eqb i 0) at)) ⌝ }
 {
     if i == 0 {
         return put_element(s, at, tags, numbers, bytes, i);
@@ -218,14 +231,14 @@ fn next_element(
 // The end of a list of n elements, with its shape.
 fn closed(s: &[u8], at: usize, tags: &mut [u32], n: usize) -> usize
     requires { ⌜ n ≤ 20 ⌝ }
-    ensures { λ r. ⌜ r ≡ behind-word (now (s .entry)) at (bytesOf ")") ⌝ }
+    ensures { λ r. ⌜ (now (tags .exit) ≡ set (now (tags .entry)) 0 (n + 1)) × (r ≡ behind-word (now (s .entry)) at (bytesOf ")")) ⌝ }
 {
     put_cell(tags, 0, n as u32 + 1);
     behind(s, at, b")")
 }
 
 fn list(s: &[u8], at: usize, tags: &mut [u32], numbers: &mut [i64], bytes: &mut [u8]) -> usize
-    ensures { λ r. ⌜ r ≡ behind-elements (now (s .entry)) 20 at ⌝ }
+    ensures { λ r. ⌜ Filled (now (s .entry)) (places-from (now (s .entry)) 20 at) (length (places-from (now (s .entry)) 20 at) + 1) (now (tags .entry)) (now (numbers .entry)) (now (bytes .entry)) (now (tags .exit)) (now (numbers .exit)) (now (bytes .exit)) × (r ≡ behind-elements (now (s .entry)) 20 at) ⌝ }
 {
     let mut p = at;
     let mut n = 0usize;
@@ -239,13 +252,22 @@ fn list(s: &[u8], at: usize, tags: &mut [u32], numbers: &mut [i64], bytes: &mut 
     closed(s, p, tags, n)
 }
 
-// Reads a value into cells and bytes that are blank: the place behind it.
+// A value that is no list.
+fn single(s: &[u8], at: usize, tags: &mut [u32], numbers: &mut [i64], bytes: &mut [u8]) -> usize
+    ensures { λ r. ⌜ Filled (now (s .entry)) (at ∷ []) 0 (now (tags .entry)) (now (numbers .entry)) (now (bytes .entry)) (now (tags .exit)) (now (numbers .exit)) (now (bytes .exit)) × (r ≡ behind-element (now (s .entry)) at) ⌝ }
+{
+    let end = put_element(s, at, tags, numbers, bytes, 0);
+    put_cell(tags, 0, 0);
+    end
+}
+
+// Reads a value into cells and bytes: the place behind it.
 pub fn value(s: &[u8], at: usize, tags: &mut [u32], numbers: &mut [i64], bytes: &mut [u8]) -> usize
-    ensures { λ r. ⌜ r ≡ behind-value (now (s .entry)) at ⌝ }
+    ensures { λ r. ⌜ ValuePut (now (s .entry)) at (now (tags .entry)) (now (numbers .entry)) (now (bytes .entry)) (now (tags .exit)) (now (numbers .exit)) (now (bytes .exit)) × (r ≡ behind-value (now (s .entry)) at) ⌝ }
 {
     let p = behind(s, at, b"l(");
     if p == NOWHERE {
-        return put_element(s, at, tags, numbers, bytes, 0);
+        return single(s, at, tags, numbers, bytes);
     }
     list(s, p, tags, numbers, bytes)
 }

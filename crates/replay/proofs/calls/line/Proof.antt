@@ -6,7 +6,7 @@ use Rattle.replay.proofs.calls.line.Statement.{statement}
 use Rattle.replay.proofs.calls.line.Tie as tie
 
 returns : tie.Need-returns
-returns c = ap (λ (l : Line). l .next) (c .before .before .before .before .before .before .before .before .before .before .before .before .before .before .before .before .before .before .before .before .before .before .before .before .before .line-at .ensures)
+returns c = ap (λ (l : Line). l .next) (c .before .before .before .before .before .before .before .before .before .before .before .before .before .before .before .before .before .before .before .before .before .before .before .before .before .line-at .ensures .line-is)
 
 pub line-spec : {M : Type 1} → statement M
 line-spec =

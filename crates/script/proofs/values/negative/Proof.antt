@@ -1,11 +1,12 @@
--- `negative` is safe: what is below 2^62 can be turned round in 64 bits.
+-- `negative`: what is below 2^62 can be turned round in 64 bits.
 use Prim.Native.Nat.{ℕ, zero, suc, _<_, _^_}
+use mathlib.Core.Path.{_∙_}
 use native.Mathlib.Omega.{arith}
-use lib.IntN.{pos, _-ℤ_}
+use lib.IntN.{pos, _-ℤ_, negℤ, +ℤ-idl}
 use borrow.Author.Tests.{lt-ltb}
 use mir.Syntax.{w64}
 use mir.Val.{SFits}
-use mir.Facts.{toZ-pos}
+use mir.Facts.{toZ-ofZ, toZ-pos}
 use borrow.Author.Needs.{needs}
 use Rattle.script.proofs.values.negative.Statement.{statement}
 use Rattle.script.proofs.values.negative.Tie as tie
@@ -20,5 +21,8 @@ wide c = omega (arith, c .pre)
 sub-result : tie.Need-sub-result
 sub-result c = simp (toZ-pos w64 (wide c)) (turned (c .args .n) (omega (arith, c .pre)))
 
+returns : tie.Need-returns
+returns c = simp (toZ-pos w64 (wide c)) (toZ-ofZ (turned (c .args .n) (omega (arith, c .pre))) ∙ +ℤ-idl (negℤ (pos (c .args .n))))
+
 pub negative-spec : {M : Type 1} → statement M
-negative-spec = tie.close (tie.spec (λ c. search needs) sub-result (λ c. search needs))
+negative-spec = tie.close (tie.spec (λ c. search needs) sub-result returns)
