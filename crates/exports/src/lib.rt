@@ -1,8 +1,8 @@
 // What C and Rust link: the public calls over slices of numbers. Who waits for whom is 1,024 bytes, 1 for a mark.
 // The names begin with the library's, since a program has one space of names for all that it links.
 use change_rows::Row;
+use endings::Ending;
 use replying::Reply;
-use running::Ending;
 use runs::Ran;
 ghost use mathlib.Core.Path.{_≡_};
 ghost use Rattle.square.specs.Square.{squareOf};

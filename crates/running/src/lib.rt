@@ -1,6 +1,7 @@
 // 8.3.2, RunEngine, with document 01's bound, turn by turn: review all; quiet, bounded, or enact and count; an exception stops.
 // The rows that are asked for are numbers here; who runs the turns puts them into the lent Changes table and takes them back.
 use change_rows::Asked;
+use endings::Ending;
 use state::Header;
 ghost use mathlib.Core.Path.{_≡_};
 ghost use mathlib.Core.Bool.{false};
@@ -9,19 +10,6 @@ ghost use Rattle.running.specs.Run.{AskedNow, Turned, made, Decided, Nex
 
 // Rows that a cycle asks for at most have so many numbers.
 const CELLS: usize = 2_304;
-
-pub struct Ending {}
-
-// How a run ended.
-impl Ending {
-    pub const NONE: u32 = 0;
-
-    pub const QUIET: u32 = 1;
-
-    pub const BOUNDED: u32 = 2;
-
-    pub const EXCEPTION: u32 = 3;
-}
 
 // Where a run stands: whether it goes on with the rows that are asked for, or how it ended; the number of cycles that it enacted; and how many rows are lent.
 pub struct Turn {

@@ -1,8 +1,8 @@
 // 8.3.2, RunEngine, as a call: document 01's tests in their order, and then the run, turn by turn over the lent Changes table.
 use change_rows::Asked;
 use change_rows::Row;
+use endings::Ending;
 use limits::Refusal;
-use running::Ending;
 use running::Turn;
 ghost use mathlib.Core.Path.{_≡_};
 ghost use mathlib.Core.Bool.{false};

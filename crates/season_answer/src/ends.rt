@@ -2,7 +2,7 @@
 use crate::called::name;
 use crate::room::last;
 use crate::room::nothing;
-use running::Ending;
+use endings::Ending;
 ghost use Prim.Native.Nat.{_≤_};
 ghost use lib.ListN.{length, take};
 ghost use Rattle.digits.specs.Appends.{Appends};

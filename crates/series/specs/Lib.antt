@@ -1,2 +1,4 @@
 pub mod Series
 pub mod SeriesLaws
+pub mod UntilQuiet
+pub mod UntilQuietLaws

@@ -2,7 +2,7 @@
 use mathlib.Core.Path.{_≡_}
 use mathlib.Core.Bool.{Bool, true, false, cond, _||_}
 use mathlib.Core.List.{List}
-use Prim.Native.Nat.{ℕ, _+_, _-_, _<_}
+use Prim.Native.Nat.{ℕ, _+_, _-_, _<_, _≤_}
 use lib.IntN.{ℤ}
 use lib.Dec.{eqb}
 use lib.ListN.{getD, length}
@@ -32,9 +32,11 @@ pub data FieldAdded (item : ℕ) (field b f s : List ℕ) : List ℕ → List �
   not-read : {r : ℕ} → ReadField (getD f (1320 + item) 0) field r → (r ≡ 0 → ⊥) → FieldAdded item field b f s b s r
   called : (t : List ℕ) (n : List ℤ) (v : List ℕ) {b′ s′ : List ℕ} {r : ℕ} → ReadField (getD f (1320 + item) 0) field 0 → CellsAdded item t n v b f s b′ s′ r → FieldAdded item field b f s b′ s′ r
 
--- the field i, where it answers an enquiry: whether its value was taken
+-- the field i, where it answers an enquiry: whether its value was taken. A label, an item that no enquiry waits for and an empty field are passed over
 pub data Answered (columns kept ends f : List ℕ) (i : ℕ) (b s : List ℕ) : List ℕ → List ℕ → Bool → Type 0 where
-  passed : Answered columns kept ends f i b s b s false
+  of-label : 64 ≤ item-of columns i → Answered columns kept ends f i b s b s false
+  not-asked : item-of columns i < 64 → asked f s (item-of columns i) ≡ false → Answered columns kept ends f i b s b s false
+  empty : item-of columns i < 64 → asked f s (item-of columns i) ≡ true → length (fieldOf kept ends i) ≡ 0 → Answered columns kept ends f i b s b s false
   given : {b′ s′ : List ℕ} {r : ℕ} → item-of columns i < 64 → asked f s (item-of columns i) ≡ true → (length (fieldOf kept ends i) ≡ 0 → ⊥)
       → FieldAdded (item-of columns i) (fieldOf kept ends i) b f s b′ s′ r → Answered columns kept ends f i b s b′ s′ (eqb r 0)
 

@@ -1,15 +1,15 @@
 -- The cases of the code, by the cells that it read.
 use mathlib.Core.Path.{_≡_, sym, subst, _∙_}
-use mathlib.Core.Bool.{Bool, true, _||_}
+use mathlib.Core.Bool.{Bool, true, false, _||_}
 use mathlib.Core.List.{List}
-use Prim.Native.Nat.{ℕ, _+_, _<_}
+use Prim.Native.Nat.{ℕ, _+_, _<_, _≤_}
 use lib.IntN.{ℤ}
 use lib.Dec.{eqb}
 use lib.ListN.{getD, length}
 use Rattle.separated.specs.Records.{fieldOf}
 use Rattle.field_values.specs.Reading.{ReadField}
 use Rattle.asked.specs.Asked.{asked}
-use Rattle.series.specs.Series.{item-of, CellsAdded, FieldAdded, not-read, called, Answered, passed, given, AllAnswered, one-more}
+use Rattle.series.specs.Series.{item-of, CellsAdded, FieldAdded, not-read, called, Answered, of-label, not-asked, empty, given, AllAnswered, one-more}
 
 module _ (item : ℕ) (field b f s : List ℕ) {d : ℕ} (e : d ≡ getD f (1320 + item) 0) where
   pub refused-as : (r : ℕ) → ReadField d field r → (r ≡ 0 → ⊥) → FieldAdded item field b f s b s r
@@ -19,6 +19,15 @@ module _ (item : ℕ) (field b f s : List ℕ) {d : ℕ} (e : d ≡ getD f (1320
   called-as z r t n v b′ s′ h k a = called t n v (subst (λ (x : ℕ). ReadField x field 0) e (subst (λ (y : ℕ). ReadField d field y) k h)) a
 
 module _ (columns kept ends f : List ℕ) (i : ℕ) (b s : List ℕ) {d : ℕ} (e : d ≡ item-of columns i) where
+  pub label-as : 64 ≤ d → Answered columns kept ends f i b s b s false
+  label-as l = of-label (subst (λ (m : ℕ). 64 ≤ m) e l)
+
+  pub unasked-as : {a : Bool} → d < 64 → a ≡ asked f s d → a ≡ false → Answered columns kept ends f i b s b s false
+  unasked-as l g h = not-asked (subst (λ (m : ℕ). m < 64) e l) (subst (λ (m : ℕ). asked f s m ≡ false) e (sym g ∙ h))
+
+  pub empty-as : {a : Bool} {w : List ℕ} → d < 64 → a ≡ asked f s d → a ≡ true → w ≡ fieldOf kept ends i → length w ≡ 0 → Answered columns kept ends f i b s b s false
+  empty-as l g h k z = empty (subst (λ (m : ℕ). m < 64) e l) (subst (λ (m : ℕ). asked f s m ≡ true) e (sym g ∙ h)) (subst (λ (v : List ℕ). length v ≡ 0) k z)
+
   pub given-as : {a u : Bool} {w b′ s′ : List ℕ} {r : ℕ} → d < 64 → a ≡ asked f s d → a ≡ true → w ≡ fieldOf kept ends i → (length w ≡ 0 → ⊥) → FieldAdded d w b f s b′ s′ r → u ≡ eqb r 0
       → Answered columns kept ends f i b s b′ s′ u
   given-as {a} {u} {w} {b′} {s′} {r} l g h k ne x y =

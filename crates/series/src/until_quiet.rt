@@ -1,8 +1,8 @@
 // Runs until the guideline is quiet. An enquiry that asks for a value of the line is answered then; where it is wanted, actions that wait for
 // it are confirmed; and the guideline runs on.
 use crate::fields::answer_asked;
+use endings::Ending;
 use limits::Tasks;
-use running::Ending;
 use runs::Ran;
 use state::Class;
 use state::Plan;
@@ -11,6 +11,9 @@ use state::State;
 use state::Tag;
 use state::cell;
 use state::row_is;
+ghost use mathlib.Core.Path.{_≡_};
+ghost use Prim.Native.Nat.{_≤_};
+ghost use Rattle.series.specs.UntilQuiet.{line, is-waiting, RunsOnce, Confirmed, AllConfirmed, GoesOn, Series};
 
 // Runs of one line: behind each a value is given or an action confirmed, so that no guideline has so many.
 const RUNS: usize = 256;
@@ -21,21 +24,26 @@ pub struct Ended {
     pub cycles: usize,
 }
 
-fn more(before: usize, k: u32) -> usize {
-    if usize::MAX / 2 < before {
-        return before;
+fn told(ending: u32, k: u32) -> Ended
+    ensures { λ r. ⌜ (r .ending ≡ ending) × (r .cycles ≡ k) × (r .cycles ≤ 4294967295) ⌝ }
+{
+    Ended {
+        ending: ending,
+        cycles: k as usize,
     }
-    before + k as usize
 }
 
+// One run: a refused one is told as an exception.
 fn run_once(
     parts: &[u32],
     texts: &mut [u8],
     plan: &[u32],
     waits: [[bool; 32]; 32],
     state: &mut [u32],
-    before: usize,
-) -> Ended {
+) -> Ended
+    ensures { λ r. ⌜ RunsOnce (now (parts .entry)) (now (plan .entry)) waits (now (texts .entry)) (now (state .entry)) (now (texts .exit)) (now (state .exit)) (r .ending) (r .cycles) ⌝ }
+    ensures few { λ r. ⌜ r .cycles ≤ 4294967295 ⌝ }
+{
     match schotterei::run_alone(
         parts,
         texts,
@@ -45,27 +53,17 @@ fn run_once(
         limits::Changes::ROWS,
         limits::Run::CYCLES as u64,
     ) {
-        Ran::Quiet(k) => Ended {
-            ending: Ending::QUIET,
-            cycles: more(before, k),
-        },
-        Ran::Bounded(k) => Ended {
-            ending: Ending::BOUNDED,
-            cycles: more(before, k),
-        },
-        Ran::Exception(k) => Ended {
-            ending: Ending::EXCEPTION,
-            cycles: more(before, k),
-        },
-        Ran::Refused(_) => Ended {
-            ending: Ending::EXCEPTION,
-            cycles: before,
-        },
+        Ran::Quiet(k) => told(Ending::QUIET, k),
+        Ran::Bounded(k) => told(Ending::BOUNDED, k),
+        Ran::Exception(k) => told(Ending::EXCEPTION, k),
+        Ran::Refused(_) => told(Ending::EXCEPTION, 0),
     }
 }
 
 // Whether the task `t` is an action that is in progress and not confirmed.
-fn is_waiting(plan: &[u32], state: &[u32], t: usize) -> bool {
+fn is_waiting(plan: &[u32], state: &[u32], t: usize) -> bool
+    ensures { λ r. ⌜ r ≡ is-waiting (now (plan .entry)) (now (state .entry)) t ⌝ }
+{
     if cell(plan, Plan::CLASS, t) != Class::ACTION {
         return false;
     }
@@ -75,7 +73,10 @@ fn is_waiting(plan: &[u32], state: &[u32], t: usize) -> bool {
     row_is(state, Property::STATE, t, Tag::STATE, State::IN_PROGRESS)
 }
 
-fn confirm_one(plan: &[u32], state: &mut [u32], t: usize) -> bool {
+// Confirms it then, whatever the call replies.
+fn confirm_one(plan: &[u32], state: &mut [u32], t: usize) -> bool
+    ensures { λ r. ⌜ Confirmed (now (plan .entry)) t (now (state .entry)) (now (state .exit)) r ⌝ }
+{
     if is_waiting(plan, state, t) {
         schotterei::confirm(plan, state, t as u64);
         return true;
@@ -84,7 +85,9 @@ fn confirm_one(plan: &[u32], state: &mut [u32], t: usize) -> bool {
 }
 
 // Confirms every such action; whether there was one.
-fn confirm(plan: &[u32], state: &mut [u32]) -> bool {
+fn confirm(plan: &[u32], state: &mut [u32]) -> bool
+    ensures { λ r. ⌜ AllConfirmed (now (plan .entry)) (now (state .entry)) 32 (now (state .exit)) r ⌝ }
+{
     let mut any = false;
     let mut t = 0usize;
     while t < Tasks::LIMIT {
@@ -106,7 +109,9 @@ fn goes_on(
     state: &mut [u32],
     ending: u32,
     confirms: bool,
-) -> bool {
+) -> bool
+    ensures { λ r. ⌜ GoesOn (now (plan .entry)) (line (now (columns .entry)) many (now (kept .entry)) (now (ends .entry)) confirms) ending (now (texts .entry)) (now (state .entry)) (now (texts .exit)) (now (state .exit)) r ⌝ }
+{
     if ending != Ending::QUIET {
         return false;
     }
@@ -130,10 +135,14 @@ pub fn run(
     kept: &[u8],
     ends: &[usize],
     confirms: bool,
-) -> Ended {
-    let mut e = run_once(parts, texts, plan, waits, state, 0);
-    let mut left = RUNS;
-    while 0 < left {
+) -> Ended
+    ensures { λ r. ⌜ Series (now (parts .entry)) (now (plan .entry)) waits (line (now (columns .entry)) many (now (kept .entry)) (now (ends .entry)) confirms) (now (texts .entry)) (now (state .entry)) (now (texts .exit)) (now (state .exit)) (r .ending) (r .cycles) ⌝ }
+{
+    let mut cycles = 0usize;
+    let mut n = 0usize;
+    while n < RUNS {
+        let e = run_once(parts, texts, plan, waits, state);
+        cycles += e.cycles;
         if !goes_on(
             plan,
             columns,
@@ -145,13 +154,15 @@ pub fn run(
             e.ending,
             confirms,
         ) {
-            return e;
+            return Ended {
+                ending: e.ending,
+                cycles: cycles,
+            };
         }
-        e = run_once(parts, texts, plan, waits, state, e.cycles);
-        left -= 1;
+        n += 1;
     }
     Ended {
         ending: Ending::BOUNDED,
-        cycles: e.cycles,
+        cycles: cycles,
     }
 }
