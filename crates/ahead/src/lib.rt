@@ -1,4 +1,6 @@
 // What the next cycle does, by the conditions of 8.6 as the review decides them.
+use limits::Marks;
+use limits::WaitTable;
 use state::Plan;
 ghost use mathlib.Core.Path.{_≡_};
 ghost use Rattle.waits.specs.Twins.{marked};
@@ -10,23 +12,17 @@ const TIME: usize = 2;
 // Of every task: whether its precondition and its wait_condition, if there, are true, and its terminate expression is there and true;
 // whether its plan terminates, and which of the four conditions of the review hold.
 pub struct Review {
-    pub pre: [bool; 32],
-    pub wait: [bool; 32],
-    pub ends: [bool; 32],
-    pub starts: [bool; 32],
-    pub initialises: [bool; 32],
-    pub ended: [bool; 32],
-    pub discards: [bool; 32],
-    pub completes: [bool; 32],
+    pub pre: Marks,
+    pub wait: Marks,
+    pub ends: Marks,
+    pub starts: Marks,
+    pub initialises: Marks,
+    pub ended: Marks,
+    pub discards: Marks,
+    pub completes: Marks,
 }
 
-pub fn next(
-    parts: &[u32],
-    texts: &[u8],
-    plan: &[u32],
-    waits: [[bool; 32]; 32],
-    state: &[u32],
-) -> Review
+pub fn next(parts: &[u32], texts: &[u8], plan: &[u32], waits: WaitTable, state: &[u32]) -> Review
     ensures { λ r. ⌜ Ahead (now (parts .entry)) (now (texts .entry)) (now (plan .entry)) waits (now (state .entry)) r ⌝ }
 {
     let pre = truths::all_allowed(parts, texts, plan, state, Plan::PRECONDITION);

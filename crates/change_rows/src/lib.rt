@@ -14,10 +14,22 @@ pub struct Row {
     pub number: u32,
 }
 
-// The rows that a cycle asks for, as plain numbers: how many, at most 576, and four numbers a row.
+impl Row {
+    // numbers in a row
+    pub const NUMBERS: usize = 4;
+}
+
+// The rows that a cycle asks for, as plain numbers: how many, and the numbers of each.
 pub struct Asked {
     pub n: usize,
-    pub cells: [u32; 2304],
+    pub cells: [u32; Asked::NUMBERS],
+}
+
+impl Asked {
+    // rows that a cycle asks for at most
+    pub const ROWS: usize = 576;
+
+    pub const NUMBERS: usize = Asked::ROWS * Row::NUMBERS;
 }
 
 // So many rows, all of them blank.
@@ -26,7 +38,7 @@ fn none(n: usize) -> Asked
 {
     Asked {
         n: n,
-        cells: [0; 2304],
+        cells: [0; Asked::NUMBERS],
     }
 }
 
@@ -36,7 +48,7 @@ fn row_of(a: Asked, i: usize) -> Row
     ensures { λ r. ⌜ r ≡ row-at (a .cells) i ⌝ }
 {
     let cells = a.cells;
-    let b = 4 * i;
+    let b = Row::NUMBERS * i;
     Row {
         component: cells[b],
         property: cells[b + 1],
@@ -51,7 +63,7 @@ fn with(a: Asked, i: usize, row: Row) -> Asked
     ensures { λ r. ⌜ (r .n ≡ a .n) × (r .cells ≡ written (a .cells) i row) ⌝ }
 {
     let mut cells = a.cells;
-    let b = 4 * i;
+    let b = Row::NUMBERS * i;
     cells[b] = row.component;
     cells[b + 1] = row.property;
     cells[b + 2] = row.tag;

@@ -2,6 +2,8 @@
 // The names begin with the library's, since a program has one space of names for all that it links.
 use change_rows::Row;
 use endings::Ending;
+use items::Form;
+use limits::Waits;
 use replying::Reply;
 use runs::Ran;
 ghost use mathlib.Core.Path.{_≡_};
@@ -74,13 +76,13 @@ pub extern "C" fn schotterei_load(
     rows: &mut [u32],
     parts: &mut [u32],
     plan: &mut [u32],
-    waits: &mut [u8; 1024],
+    waits: &mut [u8; Waits::BYTES],
     texts: &mut [u8],
     state: &mut [u32],
 ) -> Outcome
     ensures { λ r. ⌜ Loads (now (text .entry)) (lent (now (rows .entry)) (now (parts .entry)) (now (plan .entry)) no-waits (now (texts .entry)) (now (state .entry))) (now (rows .exit)) (now (parts .exit)) (now (plan .exit)) (now (waits .exit)) (now (texts .exit)) (now (state .exit)) r ⌝ }
 {
-    let mut w = [[false; 32]; 32];
+    let mut w = [[false; Waits::SIDE]; Waits::SIDE];
     let reply = schotterei::load(text, rows, parts, plan, &mut w, texts, state);
     *waits = square::pack(w);
     loaded(reply)
@@ -152,8 +154,8 @@ pub extern "C" fn schotterei_read(
     kind: u64,
     component: u64,
     property: u64,
-    cells: &mut [u32; 34],
-    bytes: &mut [u8; 768],
+    cells: &mut [u32; Form::CELLS],
+    bytes: &mut [u8; Form::BYTES],
 ) -> row_numbers::Answer
     ensures { λ r. ⌜ Reads kind component property (now (texts .entry)) (now (plan .entry)) (squareOf (now (waits .entry))) (now (state .entry)) (now (cells .exit)) (now (bytes .exit)) r ⌝ }
 {

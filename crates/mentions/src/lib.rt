@@ -32,7 +32,7 @@ fn item_at(parts: &[u32], texts: &[u8], plan: &[u32], p: usize) -> usize
 }
 
 // The data items that the expression which ends at `e` names.
-pub fn items(parts: &[u32], texts: &[u8], plan: &[u32], e: usize) -> [bool; 65]
+pub fn items(parts: &[u32], texts: &[u8], plan: &[u32], e: usize) -> [bool; DataItems::LIMIT + 1]
     ensures { λ r. ⌜ Mentioned (Named (now (parts .entry)) (now (texts .entry)) (partOf (now (plan .entry)) 1256 (getD (now (plan .entry)) 1 0))) 64 (e - getD (now (parts .entry)) ((e - 1) * 4 + 2) 0) e r ⌝ }
 {
     let mut m = [false; DataItems::LIMIT + 1];
@@ -115,7 +115,7 @@ fn task_at(parts: &[u32], texts: &[u8], plan: &[u32], p: usize) -> usize
 }
 
 // The tasks for whose state the expression which ends at `e` asks by name.
-pub fn tasks(parts: &[u32], texts: &[u8], plan: &[u32], e: usize) -> [bool; 33]
+pub fn tasks(parts: &[u32], texts: &[u8], plan: &[u32], e: usize) -> [bool; Tasks::LIMIT + 1]
     ensures { λ r. ⌜ Mentioned (Asks (now (parts .entry)) (now (texts .entry)) (partOf (now (plan .entry)) 1256 (getD (now (plan .entry)) 1 0)) (partOf (now (plan .entry)) 1193 (getD (now (plan .entry)) 0 0 - 1))) 32 (e - getD (now (parts .entry)) ((e - 1) * 4 + 2) 0) e r ⌝ }
 {
     let mut m = [false; Tasks::LIMIT + 1];

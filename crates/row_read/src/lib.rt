@@ -114,7 +114,14 @@ fn readable(s: &[u32]) -> bool
 }
 
 // Reads a row: refused with 7 where nothing is loaded.
-pub fn read(plan: &[u32], waits: WaitTable, state: &[u32], kind: u64, number: u64, property: u64) -> Row
+pub fn read(
+    plan: &[u32],
+    waits: WaitTable,
+    state: &[u32],
+    kind: u64,
+    number: u64,
+    property: u64,
+) -> Row
     ensures { λ r. ⌜ ReadsRow kind number property (now (plan .entry)) waits (now (state .entry)) r ⌝ }
 {
     if readable(state) {

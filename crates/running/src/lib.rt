@@ -2,14 +2,12 @@
 // The rows that are asked for are numbers here; who runs the turns puts them into the lent Changes table and takes them back.
 use change_rows::Asked;
 use endings::Ending;
+use limits::WaitTable;
 use state::Header;
 ghost use mathlib.Core.Path.{_≡_};
 ghost use mathlib.Core.Bool.{false};
 ghost use Prim.Native.Nat.{_+_, _<_, _≤_};
 ghost use Rattle.running.specs.Run.{AskedNow, Turned, made, Decided, Nexts};
-
-// Rows that a cycle asks for at most have so many numbers.
-const CELLS: usize = 2_304;
 
 // Where a run stands: whether it goes on with the rows that are asked for, or how it ended; the number of cycles that it enacted; and how many rows are lent.
 pub struct Turn {
@@ -21,11 +19,11 @@ pub struct Turn {
 }
 
 // The rows that a cycle asks for.
-fn ask(x: &[u32], b: &[u8], f: &[u32], w: [[bool; 32]; 32], s: &[u32]) -> Asked
+fn ask(x: &[u32], b: &[u8], f: &[u32], w: WaitTable, s: &[u32]) -> Asked
     ensures { λ r. ⌜ AskedNow (now (x .entry)) (now (b .entry)) (now (f .entry)) w (now (s .entry)) (r .cells) (r .n) ⌝ }
     ensures few { λ r. ⌜ r .n ≤ 576 ⌝ }
 {
-    let mut cells = [0u32; CELLS];
+    let mut cells = [0u32; Asked::NUMBERS];
     let m = asking::ask(x, b, f, w, s, &mut cells);
     let n = changes::bounded(&cells, m);
     Asked { n: n, cells: cells }
@@ -67,7 +65,7 @@ pub fn first(
     x: &[u32],
     b: &[u8],
     f: &[u32],
-    w: [[bool; 32]; 32],
+    w: WaitTable,
     s: &[u32],
     lent: usize,
     bound: u64,
@@ -83,7 +81,7 @@ pub fn next(
     x: &[u32],
     b: &mut [u8],
     f: &[u32],
-    w: [[bool; 32]; 32],
+    w: WaitTable,
     s: &mut [u32],
     asked: Asked,
     turn: Turn,

@@ -3,6 +3,7 @@ use change_rows::Asked;
 use change_rows::Row;
 use endings::Ending;
 use limits::Refusal;
+use limits::WaitTable;
 use running::Turn;
 ghost use mathlib.Core.Path.{_≡_};
 ghost use mathlib.Core.Bool.{false};
@@ -46,7 +47,7 @@ fn refused(ending: u32) -> Turn
 {
     let none = Asked {
         n: 0,
-        cells: [0; 2304],
+        cells: [0; Asked::NUMBERS],
     };
     Turn {
         going: false,
@@ -62,7 +63,7 @@ fn begin(
     parts: &[u32],
     texts: &[u8],
     plan: &[u32],
-    waits: [[bool; 32]; 32],
+    waits: WaitTable,
     state: &[u32],
     lent: usize,
     bound: u64,
@@ -87,7 +88,7 @@ pub fn run(
     parts: &[u32],
     texts: &mut [u8],
     plan: &[u32],
-    waits: [[bool; 32]; 32],
+    waits: WaitTable,
     state: &mut [u32],
     changes: &mut [Row],
     bound: u64,
@@ -109,7 +110,7 @@ pub fn run_alone(
     parts: &[u32],
     texts: &mut [u8],
     plan: &[u32],
-    waits: [[bool; 32]; 32],
+    waits: WaitTable,
     state: &mut [u32],
     lent: usize,
     bound: u64,

@@ -1,5 +1,6 @@
 // Rows that are lists of components, and the data items that a postcondition assigns to: by the names of the components.
 use limits::Assignments;
+use limits::Marks;
 use limits::Sources;
 use limits::Tasks;
 use state::Plan;
@@ -15,7 +16,7 @@ fn next_task(rows: &[u32], texts: &[u8], plan: &[u32], is_one: bool, any: bool, 
 }
 
 // The tasks that are marked.
-pub fn tasks(rows: &[u32], texts: &[u8], plan: &[u32], marks: [bool; 32]) {
+pub fn tasks(rows: &[u32], texts: &[u8], plan: &[u32], marks: Marks) {
     let mut any = false;
     let mut k = 0usize;
     while k < Tasks::LIMIT {

@@ -6,6 +6,7 @@ mod told;
 
 use limits::DataItems;
 use limits::Tasks;
+use limits::WaitTable;
 use state::Plan;
 
 // The numbers of all properties lie below.
@@ -16,7 +17,7 @@ fn task_property(
     rows: &[u32],
     texts: &[u8],
     plan: &[u32],
-    waits: [[bool; 32]; 32],
+    waits: WaitTable,
     state: &[u32],
     t: usize,
     p: u64,
@@ -29,14 +30,7 @@ fn task_property(
 }
 
 // Every row of the task `t`.
-pub fn task(
-    rows: &[u32],
-    texts: &[u8],
-    plan: &[u32],
-    waits: [[bool; 32]; 32],
-    state: &[u32],
-    t: usize,
-) {
+pub fn task(rows: &[u32], texts: &[u8], plan: &[u32], waits: WaitTable, state: &[u32], t: usize) {
     if parts::number(plan, Plan::TASKS) <= t {
         return;
     }

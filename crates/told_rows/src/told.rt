@@ -2,6 +2,7 @@
 use crate::components;
 use crate::properties;
 use crate::properties::Property;
+use limits::Marks;
 use row_shown::Row;
 use row_shown::Shown;
 use sentences::write;
@@ -21,7 +22,7 @@ fn class(n: u32) {
 }
 
 // A row of which it is told only that it is there: what the plan tells of it.
-fn there(rows: &[u32], texts: &[u8], plan: &[u32], before: [bool; 32], t: usize, p: u64) {
+fn there(rows: &[u32], texts: &[u8], plan: &[u32], before: Marks, t: usize, p: u64) {
     match p {
         Property::ANTECEDENT_TASKS => components::tasks(rows, texts, plan, before),
         Property::SOURCES => components::sources(texts, plan, t),
@@ -54,7 +55,7 @@ fn plain(texts: &[u8], s: Shown, v: Value) {
 }
 
 // What the row `r` of the property `p` of the task `t` holds; `before` are the tasks that it waits for.
-fn held(rows: &[u32], texts: &[u8], plan: &[u32], before: [bool; 32], t: usize, p: u64, r: Row) {
+fn held(rows: &[u32], texts: &[u8], plan: &[u32], before: Marks, t: usize, p: u64, r: Row) {
     let s = r.shown;
     let v = r.value;
     match s {
@@ -82,15 +83,7 @@ fn is_row(s: Shown) -> bool
 }
 
 // The line of a row of the task `t`, if there is one.
-pub fn of_task(
-    rows: &[u32],
-    texts: &[u8],
-    plan: &[u32],
-    before: [bool; 32],
-    t: usize,
-    p: u64,
-    r: Row,
-) {
+pub fn of_task(rows: &[u32], texts: &[u8], plan: &[u32], before: Marks, t: usize, p: u64, r: Row) {
     let s = r.shown;
     if !is_row(s) {
         return;

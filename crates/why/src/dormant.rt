@@ -1,6 +1,8 @@
 // What a dormant task waits for before it starts: 8.6.2, 8.6.5 and 8.6.6.
 use crate::condition;
+use limits::Marks;
 use limits::Tasks;
+use limits::WaitTable;
 use sentences::slips;
 use sentences::write;
 use state::Plan;
@@ -38,7 +40,7 @@ fn antecedent(rows: &[u32], texts: &[u8], plan: &[u32], state: &[u32], waits: bo
     which(rows, texts, plan, state, a);
 }
 
-fn antecedents(rows: &[u32], texts: &[u8], plan: &[u32], state: &[u32], row: [bool; 32]) {
+fn antecedents(rows: &[u32], texts: &[u8], plan: &[u32], state: &[u32], row: Marks) {
     let mut a = 0usize;
     while a < Tasks::LIMIT {
         antecedent(rows, texts, plan, state, row[a], a);
@@ -95,7 +97,7 @@ pub fn tell(
     parts: &[u32],
     texts: &[u8],
     plan: &[u32],
-    waits: [[bool; 32]; 32],
+    waits: WaitTable,
     state: &[u32],
     pre: bool,
     wait: bool,

@@ -1,6 +1,7 @@
 // Why the next cycle initialises, starts or discards a task: 8.6.1, 8.6.2, 8.6.3.
 use crate::condition;
 use limits::Tasks;
+use limits::WaitTable;
 use sentences::slips;
 use sentences::write;
 use state::Plan;
@@ -145,7 +146,7 @@ pub fn discarded(
     parts: &[u32],
     texts: &[u8],
     plan: &[u32],
-    waits: [[bool; 32]; 32],
+    waits: WaitTable,
     state: &[u32],
     pre: bool,
     wait: bool,

@@ -7,7 +7,9 @@ mod running;
 
 use ahead::Move;
 use ahead::Review;
+use limits::Marks;
 use limits::Tasks;
+use limits::WaitTable;
 use sentences::write;
 use state::Plan;
 use state::Property;
@@ -55,7 +57,7 @@ fn head(rows: &[u32], texts: &[u8], plan: &[u32], state: &[u32], t: usize) {
 }
 
 // A mark of a task's plan, where `x` is the plan and one.
-fn of_plan(marks: [bool; 32], x: usize) -> bool
+fn of_plan(marks: Marks, x: usize) -> bool
     ensures { λ r. ⌜ (x ≡ 0 → r ≡ false) × (0 < x → r ≡ marked marks (x - 1)) ⌝ }
 {
     if x == 0 {
@@ -70,7 +72,7 @@ fn stays(
     parts: &[u32],
     texts: &[u8],
     plan: &[u32],
-    waits: [[bool; 32]; 32],
+    waits: WaitTable,
     state: &[u32],
     n: Review,
     t: usize,
@@ -115,7 +117,7 @@ fn discarded(
     parts: &[u32],
     texts: &[u8],
     plan: &[u32],
-    waits: [[bool; 32]; 32],
+    waits: WaitTable,
     state: &[u32],
     n: Review,
     t: usize,
@@ -146,7 +148,7 @@ fn moves(
     parts: &[u32],
     texts: &[u8],
     plan: &[u32],
-    waits: [[bool; 32]; 32],
+    waits: WaitTable,
     state: &[u32],
     t: usize,
 ) {
@@ -166,7 +168,7 @@ pub fn tell(
     parts: &[u32],
     texts: &[u8],
     plan: &[u32],
-    waits: [[bool; 32]; 32],
+    waits: WaitTable,
     state: &[u32],
     t: usize,
 ) {

@@ -3,6 +3,7 @@ use crate::condition;
 use ahead::Move;
 use ahead::Review;
 use libc::STDOUT_FILENO;
+use limits::Marks;
 use limits::Sources;
 use limits::Tasks;
 use sentences::write;
@@ -64,13 +65,7 @@ fn sources(texts: &[u8], plan: &[u32], state: &[u32], t: usize) {
 }
 
 // 5b: whether a component is over, and neither is to start again nor changes in the next cycle.
-fn settled(
-    state: &[u32],
-    starts: [bool; 32],
-    discards: [bool; 32],
-    initialises: [bool; 32],
-    c: usize,
-) -> bool
+fn settled(state: &[u32], starts: Marks, discards: Marks, initialises: Marks, c: usize) -> bool
     ensures { λ r. ⌜ r ≡ settledF (now (state .entry)) starts discards initialises c ⌝ }
 {
     let done = state::row_is(state, Property::STATE, c, Tag::STATE, State::COMPLETED);
