@@ -1,5 +1,4 @@
 // The calls of a script, each answered by the public call of its name.
-use crate::rows::all;
 use digits::byte;
 use digits::word;
 use limits::Rows;
@@ -12,6 +11,7 @@ use transcript::counted;
 use transcript::refused_line;
 use transcript::replied;
 use transcript::shown;
+use transcript_rows::all;
 ghost use mathlib.Core.Path.{_≡_};
 ghost use Rattle.script.specs.Places.{line-of};
 

@@ -1,6 +1,5 @@
 // Replays the scripts of a batch (docs/REPLAY.md): reads them from standard input and writes the answers of the public calls.
 mod calls;
-mod rows;
 mod scripts;
 
 use batch::Next;

@@ -1,13 +1,17 @@
 // Every row, by kind, component and property; then the time and the Exception flag.
+use crate::shown::is_refused;
+use crate::shown::is_row;
+use crate::shown::refusal;
 use digits::word;
 use limits::Sources;
 use row_read::Kind;
 use row_read::Properties;
 use row_shown::Row;
-use row_shown::Shown;
 use transcript::buffer::room;
 use transcript::counted;
 use transcript::refused_line;
+ghost use Rattle.transcript_rows.specs.Rows.{buffer, Writes, with-room, Series, RowListed, ComponentRows, IsThere, KindListed, AllListed, RowsAnswered};
+ghost use Rattle.transcript.specs.Answers.{row-lined};
 
 // How many kinds section 10 has.
 const KINDS: u64 = 7;
@@ -26,12 +30,14 @@ fn row_line(
     kind: u64,
     number: u64,
     property: u64,
-    r: Row,
+    row: Row,
     out: &mut [u8],
     o: usize,
-) -> usize {
+) -> usize
+    ensures { λ r. ⌜ Writes (with-room (buffer (now (out .entry)) o)) (buffer (now (out .exit)) r) (row-lined (now (texts .entry)) kind number property row) ⌝ }
+{
     let from = room(out, o);
-    transcript::row(texts, kind, number, property, r, out, from)
+    transcript::row(texts, kind, number, property, row, out, from)
 }
 
 // The line of a row, where there is one.
@@ -45,13 +51,15 @@ fn row(
     property: u64,
     out: &mut [u8],
     o: usize,
-) -> usize {
-    let r = schotterei::read(plan, waits, state, kind, number, property);
-    let s = r.shown;
-    match s {
-        Shown::NoRow => o,
-        _ => row_line(texts, kind, number, property, r, out, o),
+) -> usize
+    ensures { λ r. ⌜ RowListed (now (texts .entry)) (now (plan .entry)) waits (now (state .entry)) kind number property (buffer (now (out .entry)) o) (buffer (now (out .exit)) r) ⌝ }
+{
+    let row = schotterei::read(plan, waits, state, kind, number, property);
+    let s = row.shown;
+    if is_row(s) {
+        return row_line(texts, kind, number, property, row, out, o);
     }
+    o
 }
 
 // The rows of a component.
@@ -64,7 +72,9 @@ fn component(
     number: u64,
     out: &mut [u8],
     o: usize,
-) -> usize {
+) -> usize
+    ensures { λ r. ⌜ ComponentRows (now (texts .entry)) (now (plan .entry)) waits (now (state .entry)) kind number (buffer (now (out .entry)) o) (buffer (now (out .exit)) r) ⌝ }
+{
     let mut property = 0u64;
     let mut p = o;
     while property < Properties::NUMBER {
@@ -75,13 +85,12 @@ fn component(
 }
 
 // Whether there is this component: each has a class.
-fn is_there(plan: &[u32], waits: [[bool; 32]; 32], state: &[u32], kind: u64, number: u64) -> bool {
-    let r = schotterei::read(plan, waits, state, kind, number, CLASS);
-    let s = r.shown;
-    match s {
-        Shown::NoRow => false,
-        _ => true,
-    }
+fn is_there(plan: &[u32], waits: [[bool; 32]; 32], state: &[u32], kind: u64, number: u64) -> bool
+    ensures { λ r. ⌜ IsThere (now (plan .entry)) waits (now (state .entry)) kind number r ⌝ }
+{
+    let row = schotterei::read(plan, waits, state, kind, number, CLASS);
+    let s = row.shown;
+    is_row(s)
 }
 
 // The rows of the components of a kind. There are no more of any kind than there may be sources.
@@ -93,10 +102,15 @@ fn of_kind(
     kind: u64,
     out: &mut [u8],
     o: usize,
-) -> usize {
+) -> usize
+    ensures { λ r. ⌜ KindListed (now (texts .entry)) (now (plan .entry)) waits (now (state .entry)) kind (buffer (now (out .entry)) o) (buffer (now (out .exit)) r) ⌝ }
+{
     let mut number = 0u64;
     let mut p = o;
-    while number < Sources::LIMIT as u64 && is_there(plan, waits, state, kind, number) {
+    while number < Sources::LIMIT as u64 {
+        if !is_there(plan, waits, state, kind, number) {
+            return p;
+        }
         p = component(texts, plan, waits, state, kind, number, out, p);
         number += 1;
     }
@@ -110,7 +124,9 @@ fn of_kinds(
     state: &[u32],
     out: &mut [u8],
     o: usize,
-) -> usize {
+) -> usize
+    ensures { λ r. ⌜ Series (KindListed (now (texts .entry)) (now (plan .entry)) waits (now (state .entry))) 7 (buffer (now (out .entry)) o) (buffer (now (out .exit)) r) ⌝ }
+{
     let mut kind = 0u64;
     let mut p = o;
     while kind < KINDS {
@@ -127,7 +143,9 @@ fn listed(
     state: &[u32],
     out: &mut [u8],
     o: usize,
-) -> usize {
+) -> usize
+    ensures { λ r. ⌜ AllListed (now (texts .entry)) (now (plan .entry)) waits (now (state .entry)) (buffer (now (out .entry)) o) (buffer (now (out .exit)) r) ⌝ }
+{
     let p = of_kinds(texts, plan, waits, state, out, o);
     let from = room(out, p);
     let q = counted(b"time", blocks::cell(state, TIME), out, from);
@@ -143,11 +161,13 @@ pub fn all(
     state: &[u32],
     out: &mut [u8],
     o: usize,
-) -> usize {
+) -> usize
+    ensures { λ r. ⌜ RowsAnswered (now (texts .entry)) (now (plan .entry)) waits (now (state .entry)) (buffer (now (out .entry)) o) (buffer (now (out .exit)) r) ⌝ }
+{
     let root = schotterei::read(plan, waits, state, Kind::TASK, 0, CLASS);
     let s = root.shown;
-    match s {
-        Shown::Refused(n) => refused_line(n, 0, out, o),
-        _ => listed(texts, plan, waits, state, out, o),
+    if is_refused(s) {
+        return refused_line(refusal(s), 0, out, o);
     }
+    listed(texts, plan, waits, state, out, o)
 }
