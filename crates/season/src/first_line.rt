@@ -4,11 +4,13 @@ use separated::Fault;
 use separated::Scan;
 use separated::Taken;
 ghost use mathlib.Core.Path.{_≡_};
-ghost use mathlib.Core.Bool.{true};
-ghost use Rattle.season.specs.FirstLine.{is-line, well-line, Headed};
+ghost use Rattle.separated.specs.Reading.{read, reached};
+ghost use Rattle.season.specs.FirstLine.{behind-mark, first-line, is-line, well-line, Headed};
 
 // The bytes of a byte order mark, which some programs write before the first line.
-fn behind_mark(chunk: &[u8]) -> usize {
+fn behind_mark(chunk: &[u8]) -> usize
+    ensures { λ r. ⌜ r ≡ behind-mark (now (chunk .entry)) ⌝ }
+{
     if chunk.len() < 3 {
         return 0;
     }
@@ -26,7 +28,7 @@ fn behind_mark(chunk: &[u8]) -> usize {
 
 // The record that the first chunk begins with; a shorter chunk than the buffer is all of the sheet.
 pub fn take(chunk: &[u8], separator: u8, kept: &mut [u8], ends: &mut [usize]) -> Taken
-    ensures { λ r. ⌜ r .scan .done ≡ true ⌝ }
+    ensures { λ r. ⌜ reached (r .at) (read (r .scan) (now (kept .exit)) (now (ends .exit))) ≡ first-line separator (now (chunk .entry)) (now (kept .entry)) (now (ends .entry)) ⌝ }
 {
     let t = separated::take(
         chunk,

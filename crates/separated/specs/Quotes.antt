@@ -1,12 +1,8 @@
--- RFC 4180: a field as it is written, and what the machine makes of bytes. Definitions only.
+-- RFC 4180: a field as it is written, and a record. Definitions only.
 use mathlib.Core.Bool.{Bool, true, false}
 use mathlib.Core.List.{List, [], _∷_, _++_}
 use Prim.Native.Nat.{ℕ}
 use lib.Dec.{eqb}
-use Rattle.separated.specs.declared.machine.Mode.{Mode}
-use Rattle.separated.specs.declared.machine.Act.{Act}
-use Rattle.separated.specs.declared.machine.Act.the-variants.{Keep, Pass, End, Last, Fault}
-use Rattle.separated.specs.Machine.{kindOf, stepOf}
 
 abbrev pub or-else : Bool → Bool → Bool
 or-else true b = true
@@ -42,19 +38,7 @@ if-then false v w = w
 abbrev pub as-written : ℕ → List ℕ → List ℕ
 as-written separator w = if-then (specials separator w) (between w) w
 
--- ---- what the machine makes of bytes: the mode behind them, and the bytes that it keeps
-
-unfoldable pub mode-behind : ℕ → Mode → List ℕ → Mode
-mode-behind separator m [] = m
-mode-behind separator m (b ∷ w) = mode-behind separator (stepOf m (kindOf b separator) .mode) w
-
-abbrev pub kept-by : Act → ℕ → List ℕ → List ℕ
-kept-by Keep b w = b ∷ w
-kept-by Pass b w = w
-kept-by End b w = w
-kept-by Last b w = w
-kept-by Fault b w = w
-
-unfoldable pub kept : ℕ → Mode → List ℕ → List ℕ
-kept separator m [] = []
-kept separator m (b ∷ w) = kept-by (stepOf m (kindOf b separator) .act) b (kept separator (stepOf m (kindOf b separator) .mode) w)
+-- a record of the field w and of others behind it: a separator between them, and a newline at the end
+unfoldable pub row-written : ℕ → List ℕ → List (List ℕ) → List ℕ
+row-written separator w [] = as-written separator w ++ (10 ∷ [])
+row-written separator w (v ∷ vs) = as-written separator w ++ (separator ∷ row-written separator v vs)

@@ -1,18 +1,17 @@
--- Reading undoes writing: of a field between quotes the machine keeps the field and stands behind its closing quote. By induction on the field.
+-- Laws of a field as it is written: what the loops of the code go by, and what the machine does with a byte between quotes.
 use mathlib.Core.Path.{_≡_, refl, sym, ap, subst, _∙_}
 use mathlib.Core.Bool.{Bool, true, false}
 use mathlib.Core.List.{List, [], _∷_, _++_, append-assoc, append-nil}
 use Prim.Native.Nat.{ℕ, zero, suc, _<_}
 use native.Mathlib.Omega.{arith}
-use lib.Dec.{eqb, T, eqb→eq}
+use lib.Dec.{eqb, T}
 use lib.ListN.{length, take, getD}
-use borrow.Author.Tests.{eqb-true, eqb-false, ne-eqb}
-use Rattle.separated.specs.declared.machine.Kind.{Kind}
+use borrow.Author.Tests.{ne-eqb}
 use Rattle.separated.specs.declared.machine.Kind.the-variants.{Quote, Newline, Return, Separator, Other}
 use Rattle.separated.specs.declared.machine.Act.the-variants.{Keep}
-use Rattle.separated.specs.declared.machine.Mode.the-variants.{Before, Quoted, Closed}
+use Rattle.separated.specs.declared.machine.Mode.the-variants.{Quoted}
 use Rattle.separated.specs.Machine.{kindOf, stepOf, pick}
-use Rattle.separated.specs.Quotes.{or-else, special, specials, once-or-twice, escaped, doubled, between, mode-behind, kept-by, kept}
+use Rattle.separated.specs.Quotes.{or-else, special, specials, escaped, doubled}
 
 -- ---- what the loops of the code go by
 
@@ -66,7 +65,7 @@ special-at separator [] i h e = absurd (omega arith)
 special-at separator (a ∷ w) zero h e = or-left (special separator a) (specials separator w) e
 special-at separator (a ∷ w) (suc i) h e = or-second (special separator a) (specials separator w) (special-at separator w i (omega arith) e)
 
--- ---- reading undoes writing
+-- ---- the machine between quotes
 
 -- between quotes every byte but a quote is kept
 stays : (s n r : Bool) → stepOf Quoted (pick s Separator (pick n Newline (pick r Return Other))) ≡ record { act = Keep; mode = Quoted }
@@ -76,44 +75,8 @@ stays false false true = refl
 stays false false false = refl
 
 module _ (separator : ℕ) (other : separator ≡ 34 → ⊥) where
-  quote-kind : kindOf 34 separator ≡ Quote
+  pub quote-kind : kindOf 34 separator ≡ Quote
   quote-kind = simp (ne-eqb 34 separator (λ e. other (sym e)))
 
-  steps : (b : ℕ) → (b ≡ 34 → ⊥) → stepOf Quoted (kindOf b separator) ≡ record { act = Keep; mode = Quoted }
+  pub steps : (b : ℕ) → (b ≡ 34 → ⊥) → stepOf Quoted (kindOf b separator) ≡ record { act = Keep; mode = Quoted }
   steps b ne = simp (ne-eqb b 34 ne) (stays (eqb b separator) (eqb b 10) (eqb b 13))
-
-  -- the machine over one byte of the field, as it is written
-  kept-byte : (b : ℕ) (w : List ℕ) → kept separator Quoted (escaped b ++ w) ≡ b ∷ kept separator Quoted w
-  unfolding kept
-  kept-byte b w = by (eqb b 34) refl
-    where
-      by : (t : Bool) → eqb b 34 ≡ t → kept separator Quoted (once-or-twice t b ++ w) ≡ b ∷ kept separator Quoted w
-      by true e = simp quote-kind (ap (λ (x : ℕ). x ∷ kept separator Quoted w) (sym (eqb-true b 34 e)))
-      by false e = simp (steps b (eqb-false b 34 e))
-
-  mode-byte : (b : ℕ) (w : List ℕ) → mode-behind separator Quoted (escaped b ++ w) ≡ mode-behind separator Quoted w
-  unfolding mode-behind
-  mode-byte b w = by (eqb b 34) refl
-    where
-      by : (t : Bool) → eqb b 34 ≡ t → mode-behind separator Quoted (once-or-twice t b ++ w) ≡ mode-behind separator Quoted w
-      by true e = simp quote-kind
-      by false e = simp (steps b (eqb-false b 34 e))
-
-  -- over the whole field and the quote that closes it
-  kept-doubled : (w : List ℕ) → kept separator Quoted (doubled w ++ (34 ∷ [])) ≡ w
-  unfolding doubled kept
-  kept-doubled [] = simp quote-kind
-  kept-doubled (b ∷ w) = rw (append-assoc, kept-byte) (ap (λ (l : List ℕ). b ∷ l) (kept-doubled w))
-
-  mode-doubled : (w : List ℕ) → mode-behind separator Quoted (doubled w ++ (34 ∷ [])) ≡ Closed
-  unfolding doubled mode-behind
-  mode-doubled [] = ap (λ (k : Kind). stepOf Quoted k .mode) quote-kind
-  mode-doubled (b ∷ w) = rw (append-assoc, mode-byte) (mode-doubled w)
-
-  -- a field between quotes is read as the field, and the machine stands where only a separator or the end of the line may follow
-  pub unquoted : (w : List ℕ) → (kept separator Before (between w) ≡ w) × (mode-behind separator Before (between w) ≡ Closed)
-  unfolding between kept mode-behind
-  unquoted w = (
-    simp quote-kind (kept-doubled w),
-    ap (λ (k : Kind). mode-behind separator (stepOf Before k .mode) (doubled w ++ (34 ∷ []))) quote-kind ∙ mode-doubled w,
-  )

@@ -5,10 +5,10 @@ use crate::machine::Byte;
 use crate::machine::Mode;
 use crate::machine::kind_of;
 use crate::machine::step;
-ghost use Prim.Native.Nat.{_<_, _≤_};
-ghost use lib.ListN.{length, set};
+ghost use lib.ListN.{length, set, drop};
 ghost use mathlib.Core.Path.{_≡_};
 ghost use Rattle.separated.specs.Records as records;
+ghost use Rattle.separated.specs.Reading as reading;
 
 pub struct Fault {}
 
@@ -69,14 +69,18 @@ pub fn begin(lines: u64) -> Scan
     }
 }
 
-fn one_more(n: u64) -> u64 {
+fn one_more(n: u64) -> u64
+    ensures { λ r. ⌜ r ≡ reading.one-more n ⌝ }
+{
     if n == u64::MAX {
         return n;
     }
     n + 1
 }
 
-fn lines_with(n: u64, b: u8) -> u64 {
+fn lines_with(n: u64, b: u8) -> u64
+    ensures { λ r. ⌜ r ≡ reading.lines-with n b ⌝ }
+{
     if b == Byte::NEWLINE {
         return one_more(n);
     }
@@ -84,7 +88,9 @@ fn lines_with(n: u64, b: u8) -> u64 {
 }
 
 // The mode behind the byte `b`.
-fn moved(s: Scan, mode: Mode, b: u8) -> Scan {
+fn moved(s: Scan, mode: Mode, b: u8) -> Scan
+    ensures { λ r. ⌜ r ≡ reading.moved-to mode b s ⌝ }
+{
     Scan {
         mode: mode,
         n: s.n,
@@ -109,7 +115,9 @@ fn spoilt(mut s: Scan, fault: u8) -> Scan
 }
 
 // What is wrong with a byte that no record has in this mode.
-fn fault_in(m: Mode) -> u8 {
+fn fault_in(m: Mode) -> u8
+    ensures { λ r. ⌜ r ≡ reading.fault-in m ⌝ }
+{
     match m {
         Mode::Before => Fault::NONE,
         Mode::Bare => Fault::QUOTE_INSIDE,
@@ -120,7 +128,9 @@ fn fault_in(m: Mode) -> u8 {
     }
 }
 
-fn keep(mut s: Scan, b: u8, kept: &mut [u8]) -> Scan {
+fn keep(mut s: Scan, b: u8, kept: &mut [u8]) -> Scan
+    ensures { λ r. ⌜ (r ≡ reading.byte-kept (length (now (kept .entry))) s) × (now (kept .exit) ≡ set (now (kept .entry)) (s .n) b) ⌝ }
+{
     let n = s.n;
     if kept.len() <= n {
         return spoilt(s, Fault::TOO_LONG);
@@ -151,7 +161,9 @@ fn end_record(s: Scan, ends: &mut [usize]) -> Scan
 }
 
 // One byte more.
-fn advance(s: Scan, b: u8, separator: u8, kept: &mut [u8], ends: &mut [usize]) -> Scan {
+fn advance(s: Scan, b: u8, separator: u8, kept: &mut [u8], ends: &mut [usize]) -> Scan
+    ensures { λ r. ⌜ reading.read r (now (kept .exit)) (now (ends .exit)) ≡ reading.read-byte separator (reading.read s (now (kept .entry)) (now (ends .entry))) b ⌝ }
+{
     let mode = s.mode;
     let m = step(mode, kind_of(b, separator));
     let next = m.mode;
@@ -175,7 +187,7 @@ pub fn take(
     kept: &mut [u8],
     ends: &mut [usize],
 ) -> Taken
-    ensures { λ r. ⌜ (from ≤ r .at) × (from < length (now (chunk .entry)) → from < r .at) ⌝ }
+    ensures { λ r. ⌜ reading.reached (r .at) (reading.read (r .scan) (now (kept .exit)) (now (ends .exit))) ≡ reading.read-from separator from (reading.read begun (now (kept .entry)) (now (ends .entry))) (drop from (now (chunk .entry))) ⌝ }
 {
     let mut at = from;
     let mut s = begun;
