@@ -3,11 +3,15 @@ use crate::help;
 use crate::shown;
 use commands::Command;
 use limits::Run;
+ghost use mathlib.Core.Path.{_≡_};
+ghost use Rattle.advise.specs.Answer.{between, quitb, Obeys, Answers};
 
 const CYCLES: u64 = Run::CYCLES as u64;
 
 // The bytes of a line from one place up to another: none, if they are not there.
-fn part(line: &[u8], from: usize, to: usize) -> &[u8] {
+fn part(line: &[u8], from: usize, to: usize) -> &[u8]
+    ensures { λ r. ⌜ now r ≡ between (now (line .entry)) from to ⌝ }
+{
     let n = line.len();
     if n < to {
         return &line[n..n];
@@ -44,8 +48,9 @@ fn show(
     }
 }
 
-// Answers a line; whether there may be another.
-pub fn answer(
+// Does what a command of a line asks for.
+fn obey(
+    c: Command,
     line: &[u8],
     rows: &[u32],
     parts: &[u32],
@@ -53,8 +58,9 @@ pub fn answer(
     plan: &[u32],
     waits: [[bool; 32]; 32],
     state: &mut [u32],
-) -> bool {
-    let c = commands::read(line);
+)
+    ensures { λ _. ⌜ Obeys (now (rows .entry)) (now (parts .entry)) (now (plan .entry)) waits (now (line .entry)) (now (texts .entry)) (now (state .entry)) c (now (texts .exit)) (now (state .exit)) ⌝ }
+{
     match c {
         Command::Give(from, to, at) => {
             told_calls::give(line, part(line, from, to), at, rows, texts, plan, state);
@@ -70,8 +76,53 @@ pub fn answer(
         Command::Time(n) => told_calls::set(state, n),
         Command::Later(n) => told_calls::later(state, n),
         Command::Earlier(n) => told_calls::earlier(state, n),
-        Command::Quit => return false,
-        _ => show(c, line, rows, parts, texts, plan, waits, state),
+        Command::Nothing => {}
+        Command::Tree => show(c, line, rows, parts, texts, plan, waits, state),
+        Command::Asked => show(c, line, rows, parts, texts, plan, waits, state),
+        Command::Rows(_, _) => show(c, line, rows, parts, texts, plan, waits, state),
+        Command::Why(_, _) => show(c, line, rows, parts, texts, plan, waits, state),
+        Command::Help => show(c, line, rows, parts, texts, plan, waits, state),
+        Command::Quit => {}
+        Command::Unclear(_) => show(c, line, rows, parts, texts, plan, waits, state),
     }
-    true
+}
+
+fn is_quit(c: Command) -> bool
+    ensures { λ r. ⌜ r ≡ quitb c ⌝ }
+{
+    match c {
+        Command::Nothing => false,
+        Command::Give(_, _, _) => false,
+        Command::Run => false,
+        Command::RunFor(_) => false,
+        Command::Confirm(_, _) => false,
+        Command::Trigger(_, _) => false,
+        Command::Time(_) => false,
+        Command::Later(_) => false,
+        Command::Earlier(_) => false,
+        Command::Tree => false,
+        Command::Asked => false,
+        Command::Rows(_, _) => false,
+        Command::Why(_, _) => false,
+        Command::Help => false,
+        Command::Quit => true,
+        Command::Unclear(_) => false,
+    }
+}
+
+// Answers a line; whether there may be another.
+pub fn answer(
+    line: &[u8],
+    rows: &[u32],
+    parts: &[u32],
+    texts: &mut [u8],
+    plan: &[u32],
+    waits: [[bool; 32]; 32],
+    state: &mut [u32],
+) -> bool
+    ensures { λ r. ⌜ Answers (now (rows .entry)) (now (parts .entry)) (now (plan .entry)) waits (now (line .entry)) (now (texts .entry)) (now (state .entry)) (now (texts .exit)) (now (state .exit)) r ⌝ }
+{
+    let c = commands::read(line);
+    obey(c, line, rows, parts, texts, plan, waits, state);
+    !is_quit(c)
 }

@@ -8,6 +8,8 @@ use limits::Expressions;
 use limits::Guideline;
 use limits::Rows;
 use spot::seen::Seen;
+ghost use Prim.Native.Nat.{_≤_};
+ghost use lib.ListN.{length};
 
 const GUIDELINE: i32 = 3;
 
@@ -39,10 +41,9 @@ fn begin(text: &[u8], s: Seen) {
     }
 }
 
-fn begin_first(buffer: &[u8], n: usize, s: Seen) {
-    if buffer.len() < n {
-        return;
-    }
+fn begin_first(buffer: &[u8], n: usize, s: Seen)
+    requires { ⌜ n ≤ length (now buffer) ⌝ }
+{
     begin(&buffer[..n], s);
 }
 

@@ -5,9 +5,13 @@ use sentences::write;
 use typed_lines::Held;
 use typed_lines::Line;
 use typed_lines::prompt;
+ghost use mathlib.Core.Path.{_≡_};
+ghost use Rattle.advise.specs.Answer.{overb, Turned, Talked};
 
 // Whether nothing is left to be read, or to be told of a line that was too long.
-fn is_over(h: Held) -> bool {
+fn is_over(h: Held) -> bool
+    ensures { λ r. ⌜ r ≡ overb h ⌝ }
+{
     if h.long {
         return false;
     }
@@ -29,7 +33,9 @@ fn turn(
     plan: &[u32],
     waits: [[bool; 32]; 32],
     state: &mut [u32],
-) -> bool {
+) -> bool
+    ensures { λ r. ⌜ Turned (now (rows .entry)) (now (parts .entry)) (now (plan .entry)) waits (now (buffer .entry)) end (h .long) (now (texts .entry)) (now (state .entry)) (now (texts .exit)) (now (state .exit)) r ⌝ }
+{
     if buffer.len() < end {
         return false;
     }
@@ -50,7 +56,9 @@ pub fn talk(
     plan: &[u32],
     waits: [[bool; 32]; 32],
     state: &mut [u32],
-) {
+)
+    ensures { λ _. ⌜ Talked (now (rows .entry)) (now (parts .entry)) (now (plan .entry)) waits (now (texts .entry)) (now (state .entry)) (now (texts .exit)) (now (state .exit)) ⌝ }
+{
     shown::first(rows, parts, texts, plan, state);
     let terminal = prompt::is_terminal();
     let mut buffer = [0u8; Line::LIMIT];

@@ -5,6 +5,8 @@ use limits::Guideline;
 use sentences::write;
 use spot::seen::Seen;
 use verdict::Verdict;
+ghost use Prim.Native.Nat.{_≤_};
+ghost use lib.ListN.{length};
 
 fn examine(text: &[u8], s: Seen) {
     if Guideline::LIMIT < s.total {
@@ -20,10 +22,9 @@ fn examine(text: &[u8], s: Seen) {
     }
 }
 
-fn examine_first(buffer: &[u8], n: usize, s: Seen) {
-    if buffer.len() < n {
-        return;
-    }
+fn examine_first(buffer: &[u8], n: usize, s: Seen)
+    requires { ⌜ n ≤ length (now buffer) ⌝ }
+{
     examine(&buffer[..n], s);
 }
 

@@ -3,12 +3,15 @@ use remarks::locate;
 use remarks::say;
 use spot::seen;
 use spot::seen::Seen;
+ghost use Prim.Native.Nat.{_≤_};
+ghost use lib.ListN.{length, take};
+ghost use Rattle.told_refusal.specs.Taken.{Sees, SeesOn, Takes};
 
 // The first n bytes of a buffer more.
-fn see_first(buffer: &[u8], n: usize, s: Seen) -> Seen {
-    if buffer.len() < n {
-        return s;
-    }
+fn see_first(buffer: &[u8], n: usize, s: Seen) -> Seen
+    requires { ⌜ n ≤ length (now buffer) ⌝ }
+    ensures { λ r. ⌜ Sees (take n (now (buffer .entry))) s r ⌝ }
+{
     seen::see(&buffer[..n], s)
 }
 
@@ -18,7 +21,9 @@ struct Turn {
     more: bool,
 }
 
-fn next(fd: i32, s: Seen) -> Turn {
+fn next(fd: i32, s: Seen) -> Turn
+    ensures { λ r. ⌜ SeesOn s (r .seen) ⌝ }
+{
     let mut chunk = io::large_buffer();
     let n = io::read_full(fd, &mut chunk);
     let t = see_first(&chunk, n, s);
@@ -29,7 +34,9 @@ fn next(fd: i32, s: Seen) -> Turn {
 }
 
 // All that is left to read. A proved loop has to end, so it counts its turns down, from a number that no text uses up.
-fn rest(fd: i32, s: Seen) -> Seen {
+fn rest(fd: i32, s: Seen) -> Seen
+    ensures { λ r. ⌜ SeesOn s r ⌝ }
+{
     let mut turns = u64::MAX;
     let mut now = s;
     while 0 < turns {
@@ -50,10 +57,16 @@ pub struct Taken {
 }
 
 // Reads a text to its end, and keeps what there is room for.
-pub fn take(fd: i32, kept: &mut [u8]) -> Taken {
+pub fn take(fd: i32, kept: &mut [u8]) -> Taken
+    ensures { λ r. ⌜ Takes (now (kept .entry)) (now (kept .exit)) r ⌝ }
+{
     let n = io::read_full(fd, kept);
-    let s = rest(fd, see_first(kept, n, seen::nothing()));
-    Taken { kept: n, seen: s }
+    let s = see_first(kept, n, seen::nothing());
+    if n < kept.len() {
+        return Taken { kept: n, seen: s };
+    }
+    let r = rest(fd, s);
+    Taken { kept: n, seen: r }
 }
 
 // The line of a place, where it was kept.

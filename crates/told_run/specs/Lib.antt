@@ -1,1 +1,3 @@
 pub mod Told
+pub mod RunLaws
+pub mod RowLaws

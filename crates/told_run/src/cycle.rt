@@ -6,40 +6,40 @@ use limits::Changes;
 use runs::Ran;
 use sentences::write;
 ghost use mathlib.Core.Path.{_≡_};
-ghost use Prim.Native.Nat.{_≤_};
-ghost use Rattle.told_run.specs.Told.{endingOf, overOf};
+ghost use Prim.Native.Nat.{_<_, _≤_};
+ghost use Rattle.runs.specs.Run.{RunsAlone};
+ghost use Rattle.told_run.specs.Told.{enactedb, boundedb, leastOf, afterOf};
 
 // The cells of a Changes table.
 const CHANGES: usize = Changes::ROWS * Row::CELLS;
 
-// How a run ended: quiet, or with more to be done; by an exception; or the number of its refusal.
-pub enum Ended {
-    Quiet,
-    More,
-    Exception,
-    Refused(u8),
-}
-
-// What a run of one cycle came to, and how many it enacted.
-pub struct Cycle {
-    pub ended: Ended,
-    pub enacted: u64,
-}
-
-pub fn ending(r: Ran) -> Ended
-    ensures { λ e. ⌜ e ≡ endingOf r ⌝ }
+// Whether a run enacted a cycle.
+fn is_enacted(r: Ran) -> bool
+    ensures { λ e. ⌜ e ≡ enactedb r ⌝ }
 {
     match r {
-        Ran::Quiet(_) => Ended::Quiet,
-        Ran::Bounded(_) => Ended::More,
-        Ran::Exception(_) => Ended::Exception,
-        Ran::Refused(n) => Ended::Refused(n),
+        Ran::Quiet(n) => 0 < n,
+        Ran::Bounded(n) => 0 < n,
+        Ran::Exception(n) => 0 < n,
+        Ran::Refused(_) => false,
+    }
+}
+
+// Whether a run ended by its bound.
+pub fn is_bounded(r: Ran) -> bool
+    ensures { λ e. ⌜ e ≡ boundedb r ⌝ }
+{
+    match r {
+        Ran::Quiet(_) => false,
+        Ran::Bounded(_) => true,
+        Ran::Exception(_) => false,
+        Ran::Refused(_) => false,
     }
 }
 
 // At most one.
-fn least(n: u32) -> u64
-    ensures { λ r. ⌜ r ≤ 1 ⌝ }
+fn least(n: u32) -> u32
+    ensures { λ r. ⌜ (r ≡ leastOf n) × (r ≤ 1) ⌝ }
 {
     if n == 0 {
         return 0;
@@ -47,34 +47,28 @@ fn least(n: u32) -> u64
     1
 }
 
-// How many cycles a run of one enacted.
-fn enacted(r: Ran) -> u64
-    ensures { λ r. ⌜ r ≤ 1 ⌝ }
+// The reply to i cycles, each of which was bounded, and one more. Behind a bounded cycle none is refused.
+pub fn after(i: u32, r: Ran) -> Ran
+    requires { ⌜ i < 256 ⌝ }
+    ensures { λ a. ⌜ a ≡ afterOf i r ⌝ }
 {
     match r {
-        Ran::Quiet(n) => least(n),
-        Ran::Bounded(n) => least(n),
-        Ran::Exception(n) => least(n),
-        Ran::Refused(_) => 0,
-    }
-}
-
-// Whether a run is over before its bound.
-pub fn is_end(e: Ended) -> bool
-    ensures { λ r. ⌜ r ≡ overOf e ⌝ }
-{
-    match e {
-        Ended::Quiet => true,
-        Ended::More => false,
-        Ended::Exception => true,
-        Ended::Refused(_) => true,
+        Ran::Quiet(n) => Ran::Quiet(i + least(n)),
+        Ran::Bounded(_) => Ran::Bounded(i + 1),
+        Ran::Exception(n) => Ran::Exception(i + least(n)),
+        Ran::Refused(n) => {
+            if i == 0 {
+                return Ran::Refused(n);
+            }
+            Ran::Quiet(i)
+        }
     }
 }
 
 // The cycle that is the n-th: what its m rows did, and the values that they gave.
-fn tell(rows: &[u32], texts: &[u8], plan: &[u32], out: &[u32], m: usize, news: &[u32], n: u64) {
+fn tell(rows: &[u32], texts: &[u8], plan: &[u32], out: &[u32], m: usize, news: &[u32], n: u32) {
     write::text(b"cycle ");
-    io::print_decimal(libc::STDOUT_FILENO, n);
+    io::print_decimal(libc::STDOUT_FILENO, n as u64);
     write::text(b":");
     done::tell(rows, texts, plan, out, m);
     assigned::tell(rows, texts, plan, news);
@@ -90,9 +84,9 @@ pub fn enact(
     plan: &[u32],
     waits: [[bool; 32]; 32],
     state: &mut [u32],
-    n: u64,
-) -> Cycle
-    ensures { λ r. ⌜ r .enacted ≤ 1 ⌝ }
+    n: u32,
+) -> Ran
+    ensures { λ r. ⌜ RunsAlone 1 1024 (now (parts .entry)) (now (texts .entry)) (now (plan .entry)) waits (now (state .entry)) (now (texts .exit)) (now (state .exit)) r ⌝ }
 {
     let mut out = [0u32; CHANGES];
     let mut news = [0u32; assigned::NEWS];
@@ -100,12 +94,9 @@ pub fn enact(
     assigned::gather(parts, texts, plan, state, &out, m, &mut news);
     done::hush(&mut out, m, state);
     let r = schotterei::run_alone(parts, texts, plan, waits, state, Changes::ROWS, 1);
-    let k = enacted(r);
-    if 0 < k {
+    if is_enacted(r) {
         tell(rows, texts, plan, &out, m, &news, n);
+        return r;
     }
-    Cycle {
-        ended: ending(r),
-        enacted: k,
-    }
+    r
 }

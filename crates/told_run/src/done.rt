@@ -8,7 +8,7 @@ use sentences::write;
 use state::Property;
 use state::Tag;
 ghost use mathlib.Core.Path.{_≡_};
-ghost use Rattle.told_run.specs.Told.{cellOf, componentOf};
+ghost use Rattle.told_run.specs.Told.{cellOf, componentOf, rowb, idleb, hushedRow, Hushed};
 
 // The cells of a row.
 const COMPONENT: usize = 0;
@@ -44,7 +44,10 @@ pub fn component(out: &[u32], i: usize) -> usize
     (cell(out, i, COMPONENT) % Row::ITEM) as usize
 }
 
-fn is_row(out: &[u32], i: usize, property: u32, number: u32) -> bool {
+// Whether the i-th row sets the property to the number.
+fn is_row(out: &[u32], i: usize, property: u32, number: u32) -> bool
+    ensures { λ r. ⌜ r ≡ rowb (now (out .entry)) i property number ⌝ }
+{
     if cell(out, i, PROPERTY) != property {
         return false;
     }
@@ -52,7 +55,9 @@ fn is_row(out: &[u32], i: usize, property: u32, number: u32) -> bool {
 }
 
 // Whether the i-th row leaves a dormant task as it is.
-fn is_idle(out: &[u32], i: usize, state: &[u32]) -> bool {
+fn is_idle(out: &[u32], i: usize, state: &[u32]) -> bool
+    ensures { λ r. ⌜ r ≡ idleb (now (out .entry)) i (now (state .entry)) ⌝ }
+{
     if !is_row(out, i, Column::STATE, State::DORMANT) {
         return false;
     }
@@ -66,7 +71,9 @@ fn is_idle(out: &[u32], i: usize, state: &[u32]) -> bool {
 }
 
 // Takes such a row out of those that are told.
-fn hush_row(out: &mut [u32], i: usize, state: &[u32]) {
+fn hush_row(out: &mut [u32], i: usize, state: &[u32])
+    ensures { λ _. ⌜ now (out .exit) ≡ hushedRow (now (out .entry)) i (now (state .entry)) ⌝ }
+{
     if Changes::ROWS <= i {
         return;
     }
@@ -76,7 +83,9 @@ fn hush_row(out: &mut [u32], i: usize, state: &[u32]) {
 }
 
 // The same for each of m rows: a plan that starts makes all its components dormant, which they mostly are.
-pub fn hush(out: &mut [u32], m: usize, state: &[u32]) {
+pub fn hush(out: &mut [u32], m: usize, state: &[u32])
+    ensures { λ _. ⌜ Hushed (now (out .entry)) m (now (state .entry)) (now (out .exit)) ⌝ }
+{
     let mut i = 0usize;
     while i < m {
         hush_row(out, i, state);

@@ -1,18 +1,20 @@
 // A run, told cycle by cycle: the tasks that change their state, the data items that are given a value, and how it ended.
-// A run of so many cycles is so many runs of one, as long as none is quiet or raises the Exception flag.
+// A run of so many cycles is so many runs of one, as long as none is quiet or raises the Exception flag: it leaves what one run with that bound leaves.
 mod assigned;
 mod cycle;
 mod done;
 
-use cycle::Ended;
 use limits::Changes;
 use limits::Run;
+use runs::Ran;
 use sentences::write;
-ghost use Prim.Native.Nat.{_≤_};
+ghost use Prim.Native.Nat.{_≤_, _<_};
+ghost use Rattle.runs.specs.Run.{RunsAlone};
+ghost use Rattle.told_run.specs.Told.{RunTold};
 
 // One cycle or many.
-fn cycles(n: u64) {
-    io::print_decimal(libc::STDOUT_FILENO, n);
+fn cycles(n: u32) {
+    io::print_decimal(libc::STDOUT_FILENO, n as u64);
     if n == 1 {
         write::text(b" cycle");
         return;
@@ -20,27 +22,27 @@ fn cycles(n: u64) {
     write::text(b" cycles");
 }
 
-// How a run ended that enacted n cycles.
-fn tell(e: Ended, n: u64) {
-    match e {
-        Ended::Quiet => {
+// How a run ended.
+fn tell(r: Ran) {
+    match r {
+        Ran::Quiet(n) => {
             write::text(b"Quiet after ");
             cycles(n);
             write::text(b": nothing more is to be done now.\n");
         }
-        Ended::More => {
+        Ran::Bounded(n) => {
             write::text(b"Stopped after ");
             cycles(n);
             write::text(b": there is more to be done.\n");
         }
-        Ended::Exception => {
+        Ran::Exception(n) => {
             write::text(b"Exception after ");
             cycles(n);
             write::text(
                 b": a data item was given two values at once, and is unknown now. Only what is shown can still be asked for.\n",
             );
         }
-        Ended::Refused(r) => refused(r),
+        Ran::Refused(n) => refused(n),
     }
 }
 
@@ -54,18 +56,6 @@ fn refused(r: u8) {
     }
 }
 
-// The ending and the count of a run that enacted no cycle, or was refused.
-fn whole(
-    parts: &[u32],
-    texts: &mut [u8],
-    plan: &[u32],
-    waits: [[bool; 32]; 32],
-    state: &mut [u32],
-    bound: u64,
-) -> Ended {
-    cycle::ending(schotterei::run_alone(parts, texts, plan, waits, state, Changes::ROWS, bound))
-}
-
 // Cycle by cycle, up to the bound.
 fn one_by_one(
     rows: &[u32],
@@ -74,23 +64,42 @@ fn one_by_one(
     plan: &[u32],
     waits: [[bool; 32]; 32],
     state: &mut [u32],
-    bound: u64,
-)
-    requires { ⌜ bound ≤ 256 ⌝ }
+    bound: u32,
+) -> Ran
+    requires { ⌜ (0 < bound) × (bound ≤ 256) ⌝ }
+    ensures { λ r. ⌜ RunsAlone bound 1024 (now (parts .entry)) (now (texts .entry)) (now (plan .entry)) waits (now (state .entry)) (now (texts .exit)) (now (state .exit)) r ⌝ }
 {
-    let mut n = 0u64;
-    let mut turn = 0u64;
-    while turn < bound {
-        let c = cycle::enact(rows, parts, texts, plan, waits, state, n + 1);
-        n += c.enacted;
-        turn += 1;
-        let e = c.ended;
-        if cycle::is_end(e) {
-            tell(e, n);
-            return;
+    let mut i = 0u32;
+    while i < bound {
+        let c = cycle::enact(rows, parts, texts, plan, waits, state, i + 1);
+        let r = cycle::after(i, c);
+        if !cycle::is_bounded(r) {
+            return r;
         }
+        i += 1;
     }
-    tell(Ended::More, n);
+    Ran::Bounded(i)
+}
+
+// The same, where the bound is none or too high: by one run, which enacts no cycle.
+fn followed(
+    rows: &[u32],
+    parts: &[u32],
+    texts: &mut [u8],
+    plan: &[u32],
+    waits: [[bool; 32]; 32],
+    state: &mut [u32],
+    bound: u64,
+) -> Ran
+    ensures { λ r. ⌜ RunsAlone bound 1024 (now (parts .entry)) (now (texts .entry)) (now (plan .entry)) waits (now (state .entry)) (now (texts .exit)) (now (state .exit)) r ⌝ }
+{
+    if (Run::CYCLES as u64) < bound {
+        return schotterei::run_alone(parts, texts, plan, waits, state, Changes::ROWS, bound);
+    }
+    if bound == 0 {
+        return schotterei::run_alone(parts, texts, plan, waits, state, Changes::ROWS, bound);
+    }
+    one_by_one(rows, parts, texts, plan, waits, state, bound as u32)
 }
 
 // Runs the engine, and tells what it does.
@@ -102,14 +111,9 @@ pub fn run(
     waits: [[bool; 32]; 32],
     state: &mut [u32],
     bound: u64,
-) {
-    if (Run::CYCLES as u64) < bound {
-        tell(whole(parts, texts, plan, waits, state, bound), 0);
-        return;
-    }
-    if bound == 0 {
-        tell(whole(parts, texts, plan, waits, state, 0), 0);
-        return;
-    }
-    one_by_one(rows, parts, texts, plan, waits, state, bound);
+)
+    ensures { λ _. ⌜ RunTold bound (now (parts .entry)) (now (texts .entry)) (now (plan .entry)) waits (now (state .entry)) (now (texts .exit)) (now (state .exit)) ⌝ }
+{
+    let r = followed(rows, parts, texts, plan, waits, state, bound);
+    tell(r);
 }

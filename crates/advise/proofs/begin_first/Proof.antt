@@ -9,5 +9,4 @@ slice-aggregate-begin : tie.Need-slice-aggregate-begin
 slice-aggregate-begin c = simp length-take (omega arith)
 
 pub begin-first-spec : {M : Type 1} → statement M
-begin-first-spec =
-    tie.close (tie.spec (λ c. search needs) slice-aggregate-begin (λ c κs. search needs) (λ c. search needs))
+begin-first-spec = tie.close (tie.spec slice-aggregate-begin (λ c κs. search needs) (λ c. search needs))

@@ -9,5 +9,4 @@ slice-aggregate-examine : tie.Need-slice-aggregate-examine
 slice-aggregate-examine c = simp length-take (omega arith)
 
 pub examine-first-spec : {M : Type 1} → statement M
-examine-first-spec =
-    tie.close (tie.spec (λ c. search needs) slice-aggregate-examine (λ c κs. search needs) (λ c. search needs))
+examine-first-spec = tie.close (tie.spec slice-aggregate-examine (λ c κs. search needs) (λ c. search needs))

@@ -1,4 +1,4 @@
--- `see_first` is safe: the first n of at least n bytes are n.
+-- `see_first`: the first n of at least n bytes are seen.
 use native.Mathlib.Omega.{arith}
 use lib.ListN.{length-take}
 use borrow.Author.Needs.{needs}
@@ -9,4 +9,4 @@ slice-aggregate-see : tie.Need-slice-aggregate-see
 slice-aggregate-see c = simp length-take (omega arith)
 
 pub see-first-spec : {M : Type 1} → statement M
-see-first-spec = tie.close (tie.spec (λ c. search needs) slice-aggregate-see (λ c κs. search needs) (λ c. search needs))
+see-first-spec = tie.close (tie.spec slice-aggregate-see (λ c κs. search needs) (λ c. search needs))
