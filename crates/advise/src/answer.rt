@@ -3,6 +3,7 @@ use crate::help;
 use crate::shown;
 use commands::Command;
 use limits::Run;
+use limits::WaitTable;
 ghost use mathlib.Core.Path.{_≡_};
 ghost use Rattle.advise.specs.Answer.{between, quitb, Obeys, Answers};
 
@@ -30,7 +31,7 @@ fn show(
     parts: &[u32],
     texts: &[u8],
     plan: &[u32],
-    waits: [[bool; 32]; 32],
+    waits: WaitTable,
     state: &[u32],
 ) {
     match c {
@@ -56,7 +57,7 @@ fn obey(
     parts: &[u32],
     texts: &mut [u8],
     plan: &[u32],
-    waits: [[bool; 32]; 32],
+    waits: WaitTable,
     state: &mut [u32],
 )
     ensures { λ _. ⌜ Obeys (now (rows .entry)) (now (parts .entry)) (now (plan .entry)) waits (now (line .entry)) (now (texts .entry)) (now (state .entry)) c (now (texts .exit)) (now (state .exit)) ⌝ }
@@ -117,7 +118,7 @@ pub fn answer(
     parts: &[u32],
     texts: &mut [u8],
     plan: &[u32],
-    waits: [[bool; 32]; 32],
+    waits: WaitTable,
     state: &mut [u32],
 ) -> bool
     ensures { λ r. ⌜ Answers (now (rows .entry)) (now (parts .entry)) (now (plan .entry)) waits (now (line .entry)) (now (texts .entry)) (now (state .entry)) (now (texts .exit)) (now (state .exit)) r ⌝ }

@@ -7,6 +7,7 @@ mod shown;
 use limits::Expressions;
 use limits::Guideline;
 use limits::Rows;
+use limits::Waits;
 use spot::seen::Seen;
 ghost use Prim.Native.Nat.{_≤_};
 ghost use lib.ListN.{length};
@@ -22,7 +23,7 @@ fn begin(text: &[u8], s: Seen) {
     let mut rows = [0u32; Rows::CELLS];
     let mut parts = [0u32; Expressions::CELLS];
     let mut plan = [0u32; load::Plan::LEAST];
-    let mut waits = [[false; 32]; 32];
+    let mut waits = [[false; Waits::SIDE]; Waits::SIDE];
     let mut texts = [0u8; load::Texts::LEAST];
     let mut state = [0u32; opening::State::LEAST];
     match schotterei::load(

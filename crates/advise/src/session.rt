@@ -1,6 +1,7 @@
 // Line by line, until quit or the end of the input.
 use crate::answer::answer;
 use crate::shown;
+use limits::WaitTable;
 use sentences::write;
 use typed_lines::Held;
 use typed_lines::Line;
@@ -31,7 +32,7 @@ fn turn(
     parts: &[u32],
     texts: &mut [u8],
     plan: &[u32],
-    waits: [[bool; 32]; 32],
+    waits: WaitTable,
     state: &mut [u32],
 ) -> bool
     ensures { λ r. ⌜ Turned (now (rows .entry)) (now (parts .entry)) (now (plan .entry)) waits (now (buffer .entry)) end (h .long) (now (texts .entry)) (now (state .entry)) (now (texts .exit)) (now (state .exit)) r ⌝ }
@@ -54,7 +55,7 @@ pub fn talk(
     parts: &[u32],
     texts: &mut [u8],
     plan: &[u32],
-    waits: [[bool; 32]; 32],
+    waits: WaitTable,
     state: &mut [u32],
 )
     ensures { λ _. ⌜ Talked (now (rows .entry)) (now (parts .entry)) (now (plan .entry)) waits (now (texts .entry)) (now (state .entry)) (now (texts .exit)) (now (state .exit)) ⌝ }

@@ -2,6 +2,7 @@
 use known_names::Sort;
 use limits::DataItems;
 use limits::Tasks;
+use limits::WaitTable;
 use sentences::write;
 
 // Whether a data item is asked for.
@@ -57,7 +58,7 @@ pub fn rows_of(
     rows: &[u32],
     texts: &[u8],
     plan: &[u32],
-    waits: [[bool; 32]; 32],
+    waits: WaitTable,
     state: &[u32],
     name: &[u8],
 ) {
@@ -83,7 +84,7 @@ pub fn why_is(
     parts: &[u32],
     texts: &[u8],
     plan: &[u32],
-    waits: [[bool; 32]; 32],
+    waits: WaitTable,
     state: &[u32],
     name: &[u8],
 ) {

@@ -1,12 +1,11 @@
 -- Laws: what is seen of two pieces, one behind the other; and what is known then of the text that was taken. By where the pieces meet.
-use Prim.Native.Nat.{ℕ, _+_, _≤_, _<_}
+use Prim.Native.Nat.{ℕ, _+_, _≤_}
 use native.Mathlib.Omega.{arith}
 use mathlib.Core.Path.{_≡_, refl}
 use mathlib.Core.List.{List, [], _++_, append-assoc, append-nil}
 use lib.ListN.{length, take, length-append}
 use Rattle.spot.specs.Seen.{Describes}
 use Rattle.spot.specs.declared.seen.Seen.{Seen}
-use Rattle.told_refusal.specs.declared.Taken.{Taken}
 use Rattle.told_refusal.specs.Taken.{Sees, SeesOn, Takes}
 
 pub nothing-more : {s : Seen} → SeesOn s s

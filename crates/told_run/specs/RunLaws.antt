@@ -10,10 +10,10 @@ use borrow.Author.Tests.{eq-eqb, ne-eqb, eqb-true, eqb-false}
 use Rattle.paper_expressions.specs.Laws.Search.{no-clash}
 use Rattle.paper_expressions.specs.Laws.Tests.{two, contra}
 use Rattle.paper_engine.specs.Cycle as Cycle
-use Cycle.{Ending, quiet, bounded, exception, Report, ends, Runs, stop-quiet, stop-bounded, stop-exception, repeat}
+use Cycle.{Ending, quiet, bounded, Report, ends, Runs, stop-quiet, stop-bounded, stop-exception, repeat}
 use Rattle.paper_engine.specs.Laws.CycleLaws.{never-more, runs-compose}
 use Rattle.paper_calls.specs.Calls as Calls
-use Calls.{State, loaded, run, Calls, run-7, run-6-bound, run-6-lent, run-done, Unready, flag-set, cycle-limit, changes-least, ran, refuses}
+use Calls.{State, loaded, run, Calls, run-7, run-6-bound, run-6-lent, run-done, flag-set, cycle-limit, ran, refuses}
 use Rattle.holding.specs.Elsewhere.{moved-on}
 use Rattle.replying.specs.Replying.{Replies}
 use Rattle.runs.specs.Run.{RunsAlone}

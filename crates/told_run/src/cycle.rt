@@ -3,6 +3,7 @@ use crate::assigned;
 use crate::done;
 use changes::Row;
 use limits::Changes;
+use limits::WaitTable;
 use runs::Ran;
 use sentences::write;
 ghost use mathlib.Core.Path.{_≡_};
@@ -82,7 +83,7 @@ pub fn enact(
     parts: &[u32],
     texts: &mut [u8],
     plan: &[u32],
-    waits: [[bool; 32]; 32],
+    waits: WaitTable,
     state: &mut [u32],
     n: u32,
 ) -> Ran

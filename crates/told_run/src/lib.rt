@@ -6,6 +6,7 @@ mod done;
 
 use limits::Changes;
 use limits::Run;
+use limits::WaitTable;
 use runs::Ran;
 use sentences::write;
 ghost use Prim.Native.Nat.{_≤_, _<_};
@@ -62,7 +63,7 @@ fn one_by_one(
     parts: &[u32],
     texts: &mut [u8],
     plan: &[u32],
-    waits: [[bool; 32]; 32],
+    waits: WaitTable,
     state: &mut [u32],
     bound: u32,
 ) -> Ran
@@ -87,7 +88,7 @@ fn followed(
     parts: &[u32],
     texts: &mut [u8],
     plan: &[u32],
-    waits: [[bool; 32]; 32],
+    waits: WaitTable,
     state: &mut [u32],
     bound: u64,
 ) -> Ran
@@ -108,7 +109,7 @@ pub fn run(
     parts: &[u32],
     texts: &mut [u8],
     plan: &[u32],
-    waits: [[bool; 32]; 32],
+    waits: WaitTable,
     state: &mut [u32],
     bound: u64,
 )
