@@ -1,101 +1,42 @@
 // The tokens that are names: of data items, of tasks, and bare in expressions, which are atoms without quotes, no functors and not assigned to.
+mod within;
+
 use leaves::cell;
-use limits::Brackets;
-use limits::TokenList;
 use parts::byte;
 use terminals::Terminal;
+use within::NONE;
+use within::Within;
+use within::before;
+use within::behind;
+use within::on;
+ghost use mathlib.Core.Path.{_≡_};
+ghost use Rattle.bare_tokens.specs.Bare as bare;
+ghost use Rattle.bare_tokens.specs.Listed as listed;
 
-// No terminal.
-const NONE: u8 = 255;
-
-// What a token stands in: the expressions behind this word of an attribute, so many brackets open, so many of them around all assignments.
-struct Within {
-    word: u8,
-    depth: usize,
-    base: usize,
-}
-
-fn behind(word: u8) -> Within {
-    Within {
-        word: word,
-        depth: 0,
-        base: 0,
-    }
-}
-
-// The words of the attributes that have expressions.
-fn has_expressions(k: u8) -> bool {
-    match k {
-        Terminal::CAPTION | Terminal::DESCRIPTION | Terminal::PRECONDITION => true,
-        Terminal::POSTCONDITION | Terminal::TERMINATE | Terminal::WAIT_CONDITION => true,
-        _ => false,
-    }
-}
-
-// The terminal before the token i, and the one behind it.
-fn before(kinds: &[u8], i: usize) -> u8 {
-    if i == 0 {
-        return NONE;
-    }
-    byte(kinds, i - 1)
-}
-
-fn after(kinds: &[u8], i: usize) -> u8 {
+// The terminal behind the token i.
+fn after(kinds: &[u8], i: usize) -> u8
+    ensures { λ r. ⌜ r ≡ bare.after (now (kinds .entry)) i ⌝ }
+{
     if kinds.len() <= i {
-        return NONE;
+        return 0;
     }
     byte(kinds, i + 1)
 }
 
-// A bracket more. The one behind `postcondition ::` is around all assignments.
-fn opened(w: Within, last: u8) -> Within {
-    if Brackets::LIMIT < w.depth {
-        return w;
-    }
-    if w.word == Terminal::POSTCONDITION {
-        if last == Terminal::DOUBLE_COLON {
-            return Within {
-                word: w.word,
-                depth: 1,
-                base: 1,
-            };
-        }
-    }
-    Within {
-        word: w.word,
-        depth: w.depth + 1,
-        base: w.base,
-    }
-}
-
-fn closed(w: Within) -> Within {
-    if w.depth == 0 {
-        return w;
-    }
-    Within {
-        word: w.word,
-        depth: w.depth - 1,
-        base: w.base,
-    }
-}
-
-// One token more, behind the terminal `last`.
-fn on(w: Within, k: u8, last: u8) -> Within {
-    if has_expressions(k) {
-        return behind(k);
-    }
-    match k {
-        Terminal::SEMICOLON => behind(NONE),
-        Terminal::LEFT_PARENTHESIS => opened(w, last),
-        Terminal::LEFT_BRACKET => opened(w, last),
-        Terminal::RIGHT_PARENTHESIS => closed(w),
-        Terminal::RIGHT_BRACKET => closed(w),
-        _ => w,
+// Whether a name behind this terminal may be assigned to.
+fn starts(last: u8) -> bool
+    ensures { λ r. ⌜ r ≡ bare.starts last ⌝ }
+{
+    match last {
+        Terminal::DOUBLE_COLON | Terminal::AND | Terminal::LEFT_PARENTHESIS => true,
+        _ => false,
     }
 }
 
 // Whether a name between these terminals is assigned to.
-fn is_target(w: Within, last: u8, next: u8) -> bool {
+fn is_target(w: Within, last: u8, next: u8) -> bool
+    ensures { λ r. ⌜ r ≡ bare.is-target w last next ⌝ }
+{
     if w.word != Terminal::POSTCONDITION {
         return false;
     }
@@ -105,31 +46,73 @@ fn is_target(w: Within, last: u8, next: u8) -> bool {
     if next != Terminal::EQUALS {
         return false;
     }
-    match last {
-        Terminal::DOUBLE_COLON | Terminal::AND | Terminal::LEFT_PARENTHESIS => true,
+    starts(last)
+}
+
+fn is_atom(k: u8) -> bool
+    ensures { λ r. ⌜ r ≡ bare.is-atom k ⌝ }
+{
+    match k {
+        Terminal::OTHER_ATOM => true,
+        Terminal::YES_OR_NO => true,
+        Terminal::DATA_TYPE => true,
         _ => false,
     }
 }
 
-fn is_bare(text: &[u8], kinds: &[u8], places: &[usize], i: usize, w: Within) -> bool {
-    let k = byte(kinds, i);
-    if w.word == NONE {
+// Whether the token i is an atom without quotes.
+fn is_plain(text: &[u8], kinds: &[u8], places: &[usize], i: usize) -> bool
+    ensures { λ r. ⌜ r ≡ bare.is-plain (now (text .entry)) (now (kinds .entry)) (now (places .entry)) i ⌝ }
+{
+    if !is_atom(byte(kinds, i)) {
         return false;
     }
-    if k < Terminal::OTHER_ATOM {
-        return false;
-    }
-    if Terminal::DATA_TYPE < k {
-        return false;
-    }
-    if byte(text, cell(places, i)) == b'\'' {
-        return false;
-    }
+    byte(text, cell(places, i)) != b'\''
+}
+
+// Whether what stands at the token i is neither a functor nor assigned to.
+fn is_read(kinds: &[u8], i: usize, w: Within) -> bool
+    ensures { λ r. ⌜ r ≡ bare.is-read (now (kinds .entry)) i w ⌝ }
+{
     let next = after(kinds, i);
     if next == Terminal::LEFT_PARENTHESIS {
         return false;
     }
     !is_target(w, before(kinds, i), next)
+}
+
+fn is_bare(text: &[u8], kinds: &[u8], places: &[usize], i: usize, w: Within) -> bool
+    ensures { λ r. ⌜ r ≡ bare.is-bare (now (text .entry)) (now (kinds .entry)) (now (places .entry)) i w ⌝ }
+{
+    if w.word == NONE {
+        return false;
+    }
+    if !is_plain(text, kinds, places, i) {
+        return false;
+    }
+    is_read(kinds, i, w)
+}
+
+// The word that declares the token i as a name, two tokens before it.
+fn declaring(kinds: &[u8], i: usize) -> u8
+    ensures { λ r. ⌜ r ≡ bare.declaring (now (kinds .entry)) i ⌝ }
+{
+    if i == 0 {
+        return NONE;
+    }
+    if before(kinds, i) != Terminal::DOUBLE_COLON {
+        return NONE;
+    }
+    before(kinds, i - 1)
+}
+
+fn is_task(k: u8) -> bool
+    ensures { λ r. ⌜ r ≡ bare.is-task k ⌝ }
+{
+    match k {
+        Terminal::PLAN | Terminal::ACTION | Terminal::ENQUIRY => true,
+        _ => false,
+    }
 }
 
 // How many tokens there are of each sort.
@@ -139,74 +122,18 @@ pub struct Counts {
     pub bare: usize,
 }
 
-// One token more on a list, where there is room.
-fn put(list: &mut [usize], n: usize, i: usize) -> usize {
+// The token i behind the n of a list, if it is one more and there is room.
+fn put(list: &mut [usize], n: usize, one: bool, i: usize) -> usize
+    ensures { λ r. ⌜ listed.Put (now (list .entry)) n one i (now (list .exit)) r ⌝ }
+{
+    if !one {
+        return n;
+    }
     if list.len() <= n {
         return n;
     }
     list[n] = i;
     n + 1
-}
-
-// Whether the word at the token i declares a name, which stands two tokens on.
-fn declares(kinds: &[u8], i: usize) -> bool {
-    after(kinds, i) == Terminal::DOUBLE_COLON
-}
-
-fn two_on(i: usize) -> usize {
-    if i < TokenList::LIMIT {
-        return i + 2;
-    }
-    i
-}
-
-fn is_task(k: u8) -> bool {
-    match k {
-        Terminal::PLAN | Terminal::ACTION | Terminal::ENQUIRY => true,
-        _ => false,
-    }
-}
-
-// The names of the data items and of the tasks.
-fn declared(kinds: &[u8], i: usize, items: &mut [usize], tasks: &mut [usize], c: Counts) -> Counts {
-    if !declares(kinds, i) {
-        return c;
-    }
-    if byte(kinds, i) == Terminal::DATA {
-        return Counts {
-            items: put(items, c.items, two_on(i)),
-            tasks: c.tasks,
-            bare: c.bare,
-        };
-    }
-    if is_task(byte(kinds, i)) {
-        return Counts {
-            items: c.items,
-            tasks: put(tasks, c.tasks, two_on(i)),
-            bare: c.bare,
-        };
-    }
-    c
-}
-
-// The bare names.
-fn found(
-    text: &[u8],
-    kinds: &[u8],
-    places: &[usize],
-    i: usize,
-    w: Within,
-    names: &mut [usize],
-    c: Counts,
-) -> Counts {
-    if !is_bare(text, kinds, places, i, w) {
-        return c;
-    }
-    Counts {
-        items: c.items,
-        tasks: c.tasks,
-        bare: put(names, c.bare, i),
-    }
 }
 
 // The names among the first n tokens: of data items, of tasks, and bare in expressions.
@@ -218,19 +145,25 @@ pub fn collect(
     items: &mut [usize],
     tasks: &mut [usize],
     names: &mut [usize],
-) -> Counts {
-    let mut c = Counts {
-        items: 0,
-        tasks: 0,
-        bare: 0,
-    };
+) -> Counts
+    ensures { λ r. ⌜ bare.Collected (now (text .entry)) (now (kinds .entry)) (now (places .entry)) n (now (items .entry)) (now (tasks .entry)) (now (names .entry)) (now (items .exit)) (now (tasks .exit)) (now (names .exit)) r ⌝ }
+{
+    let mut a = 0usize;
+    let mut b = 0usize;
+    let mut c = 0usize;
     let mut w = behind(NONE);
     let mut i = 0usize;
     while i < n {
         w = on(w, byte(kinds, i), before(kinds, i));
-        c = declared(kinds, i, items, tasks, c);
-        c = found(text, kinds, places, i, w, names, c);
+        let k = declaring(kinds, i);
+        a = put(items, a, k == Terminal::DATA, i);
+        b = put(tasks, b, is_task(k), i);
+        c = put(names, c, is_bare(text, kinds, places, i, w), i);
         i += 1;
     }
-    c
+    Counts {
+        items: a,
+        tasks: b,
+        bare: c,
+    }
 }

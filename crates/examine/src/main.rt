@@ -1,5 +1,5 @@
 // Examines one guideline: reads any bytes from standard input and writes `refused N P` or `loads`; then, for people, of a refusal the line and what is wrong, and of a guideline that loads the names that are read as text.
-use bare_names::names;
+use bare_names::told;
 use libc::STDIN_FILENO;
 use limits::Guideline;
 use sentences::write;
@@ -16,7 +16,7 @@ fn examine(text: &[u8], s: Seen) {
     match verdict::decide(text) {
         Verdict::Loads => {
             write::text(b"loads\n");
-            names::list(text);
+            told::list(text);
         }
         Verdict::Refused(number, place) => told_refusal::tell(text, number, place, s),
     }

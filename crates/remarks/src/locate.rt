@@ -2,6 +2,8 @@
 use sentences::write;
 use spot::lines;
 use spot::show;
+ghost use mathlib.Core.Path.{_≡_};
+ghost use Prim.Native.Nat.{_-_};
 
 pub fn head(number: u8, place: usize) {
     write::text(b"refused ");
@@ -11,7 +13,9 @@ pub fn head(number: u8, place: usize) {
     write::text(b"\n");
 }
 
-fn wide(b: u8) -> usize {
+fn wide(b: u8) -> usize
+    ensures { λ r. ⌜ r ≡ b ⌝ }
+{
     b as usize
 }
 
@@ -39,7 +43,10 @@ fn mark(before: usize, was_cut: bool) {
     write::text(b"^\n");
 }
 
-fn behind(place: usize, from: usize) -> usize {
+// How far a place stands behind another.
+fn behind(place: usize, from: usize) -> usize
+    ensures { λ r. ⌜ r ≡ place - from ⌝ }
+{
     if place < from {
         return 0;
     }

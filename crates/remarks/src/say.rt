@@ -5,6 +5,7 @@ use explain::offer;
 use explain::quote;
 use explain::spelling;
 use leaves::cell;
+use limits::Refusal;
 use limits::TokenList;
 use name_sentences::of_name;
 use parts::byte;
@@ -158,11 +159,11 @@ fn of_token_at(
     n: usize,
 ) {
     match number {
-        3 => of_grammar(kinds, i, n),
-        4 => of_name(text, place),
-        5 => of_expression(text, kinds, places, i, place),
-        6 => of_limit(text, byte(kinds, i), place, cell(lengths, i), i, n),
-        10 => of_edition(text, byte(kinds, i), place, cell(lengths, i)),
+        Refusal::GRAMMAR => of_grammar(kinds, i, n),
+        Refusal::NAME => of_name(text, place),
+        Refusal::TYPE => of_expression(text, kinds, places, i, place),
+        Refusal::LIMIT => of_limit(text, byte(kinds, i), place, cell(lengths, i), i, n),
+        Refusal::LEFT_OUT => of_edition(text, byte(kinds, i), place, cell(lengths, i)),
         _ => {}
     }
 }
@@ -185,8 +186,8 @@ fn of_tokens_at(text: &[u8], number: u8, place: usize) {
 // The sentence on the refusal `number` at a place.
 pub fn why(text: &[u8], number: u8, place: usize, seen: Seen) {
     match number {
-        1 => of_bytes(seen),
-        2 => of_start(byte(text, place)),
+        Refusal::TEXT => of_bytes(seen),
+        Refusal::LEXICAL => of_start(byte(text, place)),
         _ => of_tokens_at(text, number, place),
     }
 }

@@ -21,6 +21,9 @@ use row_tests::cells::handle;
 use sentences::slips;
 use sentences::write;
 use types::columns::gather;
+ghost use Rattle.parts.specs.Part.{table};
+ghost use Rattle.row_tests.specs.Table.{cellOf};
+ghost use Rattle.type_sentences.specs.Settled.{Spelt, Settled, FirstUntyped};
 
 // The number of a declared type: boolean.
 const BOOLEAN: usize = 3;
@@ -166,7 +169,9 @@ fn spell(
     from: usize,
     to: usize,
     letters: &mut [u8],
-) {
+)
+    ensures { λ _. ⌜ Spelt (table (now (cells .entry)) (now (bytes .entry))) (now (names .entry)) (now (types .entry)) from to (now (letters .entry)) (now (letters .exit)) ⌝ }
+{
     let mut p = from;
     while p < to {
         if letters.len() <= p {
@@ -186,7 +191,9 @@ fn settle(
     from: usize,
     to: usize,
     letters: &mut [u8],
-) -> usize {
+) -> usize
+    ensures { λ r. ⌜ Settled (now (rows .entry)) n (table (now (cells .entry)) (now (bytes .entry))) from to (now (letters .entry)) (now (letters .exit)) r ⌝ }
+{
     if ROWS < n {
         return to;
     }
@@ -225,7 +232,9 @@ fn tell(
 }
 
 // The sentence on the expression of the row `j`; answers its first part without a type, or where it ends.
-pub fn why(text: &[u8], rows: &[u32], n: usize, cells: &[u32], bytes: &[u8], j: usize) -> usize {
+pub fn why(text: &[u8], rows: &[u32], n: usize, cells: &[u32], bytes: &[u8], j: usize) -> usize
+    ensures { λ r. ⌜ FirstUntyped (now (rows .entry)) n (table (now (cells .entry)) (now (bytes .entry))) (cellOf (now (rows .entry)) j 4) (cellOf (now (rows .entry)) j 6) r ⌝ }
+{
     let mut letters = [0u8; Expressions::PARTS];
     let e = end(rows, j);
     let p = settle(rows, n, cells, bytes, first_part(rows, j), e, &mut letters);

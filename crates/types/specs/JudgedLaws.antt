@@ -249,19 +249,31 @@ columns-hold {b} {l} {k} {v} {m} u w h = record {
 pub too-long : (x : List ℕ) (n : ℕ) (t : Table) → row-limit < n → Judged x n t Answer.Nowhere
 too-long x n t l g given = absurd (let f = given .few-rows in omega arith)
 
-pub too-many : {x : List ℕ} {n : ℕ} (t : Table) {l k l′ k′ : List ℕ} {m : ℕ} → Gathers x n l k l′ k′ m → data-item-limit < m → Judged x n t Answer.Nowhere
-too-many t h u g given =
-    let c = h .held g t (given .encoded) (given .limits) (given .count) .count in
-    let a = length-map {B = Item} (data-items g) (λ (d : DataItem). record { name = d .named .spelt; declared = d .declared; value = none }) in
-    let f = given .few-items in
-    absurd (omega arith)
+-- what is gathered of the rows of a guideline: no more items than the limit, and columns that hold them
+module _ {x : List ℕ} {n : ℕ} (t : Table) {l k l′ k′ : List ℕ} {m : ℕ} (h : Gathers x n l k l′ k′ m) {g : List TopLevel} (given : Given x n t g) where
+  held : Holding (t .bytes) l′ k′ (declared-items g .items) m
+  held = h .held g t (given .encoded) (given .limits) (given .count)
 
-pub concluded : {x : List ℕ} {n : ℕ} (t : Table) {l k l′ k′ : List ℕ} {m : ℕ} (r : Found) → Gathers x n l k l′ k′ m → length l ≡ data-item-limit → length k ≡ data-item-limit → m ≤ data-item-limit
+  pub few-gathered : m ≤ data-item-limit
+  few-gathered =
+      let c = held .count in
+      let a = length-map {B = Item} (data-items g) (λ (d : DataItem). record { name = d .named .spelt; declared = d .declared; value = none }) in
+      let f = given .few-items in
+      omega arith
+
+  pub gathered-items : length l ≡ data-item-limit → length k ≡ data-item-limit → Items (t .bytes) (take m l′) k′ (declared-items g)
+  gathered-items el ek =
+      let a = h .names-long in
+      let b = h .types-long in
+      let u = few-gathered in
+      columns-hold (omega arith) (omega arith) held
+
+pub too-many : {x : List ℕ} {n : ℕ} (t : Table) {l k l′ k′ : List ℕ} {m : ℕ} → Gathers x n l k l′ k′ m → data-item-limit < m → Judged x n t Answer.Nowhere
+too-many t h u g given = absurd (let f = few-gathered t h given in omega arith)
+
+pub concluded : {x : List ℕ} {n : ℕ} (t : Table) {l k l′ k′ : List ℕ} {m : ℕ} (r : Found) → Gathers x n l k l′ k′ m → length l ≡ data-item-limit → length k ≡ data-item-limit
     → Judged-with x n t l′ k′ m r → Judged x n t r
-concluded t {l} {k} r h el ek u f g given =
-    let a = h .names-long in
-    let b = h .types-long in
-    f g given (columns-hold (omega arith) (omega arith) (h .held g t (given .encoded) (given .limits) (given .count)))
+concluded t r h el ek f g given = f g given (gathered-items t h given el ek)
 
 -- at most one answer
 pub one-told : (g : List TopLevel) (r s : Found) → Told-of g r → Told-of g s → r ≡ s

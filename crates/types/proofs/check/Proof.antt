@@ -16,7 +16,7 @@ returns-2 c = let a = c .before .before .before .before .before .before .before 
 returns-3 : tie.Need-returns-3
 returns-3 c =
     let a = c .before .before .before .before .before .before .before .before .before .before .before .before .before .args in
-    concluded (table (a .cells .now) (a .bytes .now)) (c .judged .result) (c .before .before .before .before .before .before .gather .ensures) (length-replicate {A = ℕ} 64 0) (length-replicate {A = ℕ} 64 0) (c .before .before .before .if2 .left) (c .judged .ensures)
+    concluded (table (a .cells .now) (a .bytes .now)) (c .judged .result) (c .before .before .before .before .before .before .gather .ensures) (length-replicate {A = ℕ} 64 0) (length-replicate {A = ℕ} 64 0) (c .judged .ensures)
 
 pub check-spec : {M : Type 1} → statement M
 check-spec =

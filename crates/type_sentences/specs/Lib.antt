@@ -1,0 +1,4 @@
+pub mod Settled
+pub mod SettledLaws
+pub mod Leaves
+pub mod LeavesLaws
