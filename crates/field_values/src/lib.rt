@@ -1,16 +1,13 @@
 // A field of a sheet, to cells and bytes as adding a value takes them, by the declared type of its data item. Nothing is guessed: a field that
 // is no value of that type is refused.
-use blocks::copy_text;
-use blocks::put_cell;
-use typed_value::Room;
+use parts::Declared;
 use typed_value::Slip;
 use typed_value::Typed;
 use typed_value::lexemes::is_word;
 ghost use mathlib.Core.Path.{_≡_};
-ghost use mathlib.Core.Bool.{false};
-ghost use Prim.Native.Nat.{_≤_};
+ghost use mathlib.Core.Bool.{true, false};
 ghost use Rattle.field_values.specs.Reading as reading;
-ghost use Rattle.field_values.specs.Reading.{ReadBy, ReadField};
+ghost use Rattle.field_values.specs.Reading.{field-by, field-as, FieldRead};
 
 pub struct Refusal {}
 
@@ -22,34 +19,6 @@ impl Refusal {
 
     pub const TYPE: u8 = 9;
 }
-
-pub struct Declared {}
-
-// The declared types, by their numbers in the plan.
-impl Declared {
-    pub const TEXT: u32 = 1;
-
-    pub const INTEGER: u32 = 2;
-
-    pub const BOOLEAN: u32 = 3;
-
-    pub const DATETIME: u32 = 4;
-
-    pub const DATE: u32 = 5;
-
-    pub const TIME: u32 = 6;
-
-    pub const REAL: u32 = 7;
-
-    pub const SETOF_TEXT: u32 = 8;
-
-    pub const SETOF_INTEGER: u32 = 9;
-
-    pub const SETOF_REAL: u32 = 10;
-}
-
-// The tag of a text.
-const TAG: u32 = 4;
 
 // Whether values of the type are texts (4.3).
 fn is_text(declared: u32) -> bool
@@ -111,39 +80,21 @@ fn number_of(slip: Slip, declared: u32) -> u8
     }
 }
 
-// As many bytes as a handle can tell: they are beyond the limit already, where the text is longer.
-fn told(n: usize) -> usize
-    ensures { λ r. ⌜ r ≤ 63 ⌝ }
-{
-    if n < Room::KEPT {
-        return n;
-    }
-    Room::KEPT
-}
-
-fn put_number(numbers: &mut [i64], i: usize, x: i64) {
-    if i < numbers.len() {
-        numbers[i] = x;
-    }
-}
-
-// The field as it stands is the text, but for the word unknown, whose cells are the blank ones.
-fn text(field: &[u8], tags: &mut [u32], numbers: &mut [i64], bytes: &mut [u8]) -> u8
-    ensures { λ r. ⌜ r ≡ 0 ⌝ }
+// The field as it stands is the text, but for the word unknown.
+fn text(declared: u32, field: &[u8], tags: &mut [u32], numbers: &mut [i64], bytes: &mut [u8]) -> u8
+    ensures { λ r. ⌜ FieldRead declared (now (tags .entry)) (now (numbers .entry)) (now (bytes .entry)) (now (tags .exit)) (now (numbers .exit)) (now (bytes .exit)) r (field-by true (now (field .entry))) ⌝ }
 {
     if is_word(field, 0, field.len(), b"unknown") {
+        typed_value::put_unknown(tags, numbers);
         return Refusal::NONE;
     }
-    let k = told(field.len());
-    copy_text(field, 0, k, bytes, 0, Room::TEXT);
-    put_cell(tags, 1, TAG);
-    put_number(numbers, 1, k as i64);
+    typed_value::put_text(field, tags, numbers, bytes);
     Refusal::NONE
 }
 
 // A number, a list, or unknown.
 fn typed(declared: u32, field: &[u8], tags: &mut [u32], numbers: &mut [i64], bytes: &mut [u8]) -> u8
-    ensures { λ r. ⌜ ReadBy false declared (now (field .entry)) r ⌝ }
+    ensures { λ r. ⌜ FieldRead declared (now (tags .entry)) (now (numbers .entry)) (now (bytes .entry)) (now (tags .exit)) (now (numbers .exit)) (now (bytes .exit)) r (field-by false (now (field .entry))) ⌝ }
 {
     match typed_value::read(field, 0, field.len(), tags, numbers, bytes) {
         Typed::Value => Refusal::NONE,
@@ -159,10 +110,10 @@ pub fn read(
     numbers: &mut [i64],
     bytes: &mut [u8],
 ) -> u8
-    ensures { λ r. ⌜ ReadField declared (now (field .entry)) r ⌝ }
+    ensures { λ r. ⌜ FieldRead declared (now (tags .entry)) (now (numbers .entry)) (now (bytes .entry)) (now (tags .exit)) (now (numbers .exit)) (now (bytes .exit)) r (field-as declared (now (field .entry))) ⌝ }
 {
     if is_text(declared) {
-        return text(field, tags, numbers, bytes);
+        return text(declared, field, tags, numbers, bytes);
     }
     typed(declared, field, tags, numbers, bytes)
 }

@@ -1,22 +1,60 @@
 -- The cases of the code, by the cells that it read.
-use mathlib.Core.Path.{_≡_, sym, subst, _∙_}
+use mathlib.Core.Path.{_≡_, refl, sym, subst, _∙_}
+use native.Mathlib.Omega.{arith}
 use mathlib.Core.Bool.{Bool, true, false, _||_}
 use mathlib.Core.List.{List}
 use Prim.Native.Nat.{ℕ, _+_, _<_, _≤_}
 use lib.IntN.{ℤ}
 use lib.Dec.{eqb}
-use lib.ListN.{getD, length}
+use lib.ListN.{length}
 use Rattle.separated.specs.Records.{fieldOf}
-use Rattle.field_values.specs.Reading.{ReadField}
+use Rattle.paper_expressions.specs.Values.{Value}
+use Rattle.adding.specs.Add.{Adds}
+use Rattle.typed_value.specs.Elements.{Found}
+use Rattle.typed_value.specs.Cells.{numbersWith, textsWith}
+use Rattle.typed_value.specs.declared.steps.Slip.{Slip}
+use Rattle.typed_value.specs.declared.steps.Slip.the-variants.{Fine, Missing, Bare, Unclosed, Digits, Decimals, Separator, Nested, Many, Behind}
+use Rattle.field_values.specs.Reading.{real-type, list-type, limit-if, refusal-by, field-as, FieldRead, field-value, field-wrong}
 use Rattle.asked.specs.Asked.{asked}
-use Rattle.series.specs.Series.{item-of, CellsAdded, FieldAdded, not-read, called, Answered, of-label, not-asked, empty, given, AllAnswered, one-more}
+use Rattle.series.specs.Series.{item-of, CellsAdded, ValueAdded, not-read, called, FieldAdded, Answered, of-label, not-asked, empty, given, AllAnswered, one-more}
 
-module _ (item : ℕ) (field b f s : List ℕ) {d : ℕ} (e : d ≡ getD f (1320 + item) 0) where
-  pub refused-as : (r : ℕ) → ReadField d field r → (r ≡ 0 → ⊥) → FieldAdded item field b f s b s r
-  refused-as r h ne = not-read (subst (λ (x : ℕ). ReadField x field r) e h) ne
+limit-some : (t : Bool) → limit-if t ≡ 0 → ⊥
+limit-some true e = omega arith
+limit-some false e = omega arith
 
-  pub called-as : (z r : ℕ) (t : List ℕ) (n : List ℤ) (v b′ s′ : List ℕ) → ReadField d field z → z ≡ 0 → CellsAdded item t n v b f s b′ s′ r → FieldAdded item field b f s b′ s′ r
-  called-as z r t n v b′ s′ h k a = called t n v (subst (λ (x : ℕ). ReadField x field 0) e (subst (λ (y : ℕ). ReadField d field y) k h)) a
+refusal-some : (k : Slip) (d : ℕ) → refusal-by k d ≡ 0 → ⊥
+refusal-some Fine d e = omega arith
+refusal-some Missing d e = omega arith
+refusal-some Bare d e = omega arith
+refusal-some Unclosed d e = omega arith
+refusal-some Digits d e = omega arith
+refusal-some Decimals d e = limit-some (real-type d) e
+refusal-some Separator d e = omega arith
+refusal-some Nested d e = omega arith
+refusal-some Many d e = limit-some (list-type d) e
+refusal-some Behind d e = omega arith
+
+module _ (item : ℕ) {d : ℕ} {t : List ℕ} {n : List ℤ} {v : List ℕ} (b f s : List ℕ) where
+  -- refused as it is read
+  pub refused-as : {t′ : List ℕ} {n′ : List ℤ} {v′ : List ℕ} {z : ℕ} {o : Found Value} → FieldRead d t n v t′ n′ v′ z o → (z ≡ 0 → ⊥) → ValueAdded item d t n v b f s o b s z
+  refused-as (field-value x y w) ne = absurd (ne refl)
+  refused-as field-wrong ne = not-read
+
+  -- or given
+  pub called-as : {t′ : List ℕ} {n′ : List ℤ} {v′ : List ℕ} {z : ℕ} {o : Found Value} (b′ s′ : List ℕ) (r : ℕ) → FieldRead d t n v t′ n′ v′ z o → z ≡ 0 → CellsAdded item t′ n′ v′ b f s b′ s′ r → ValueAdded item d t n v b f s o b′ s′ r
+  called-as b′ s′ r (field-wrong {k = k}) e a = absurd (refusal-some k d e)
+  called-as {t′} {n′} {v′} b′ s′ r (field-value {v = w} x y z) e a =
+      called (
+        a .0,
+        subst (λ (c : List ℕ). Adds item c (numbersWith w n) (textsWith w v) b f s b′ s′ (a .0)) x
+            (subst (λ (c : List ℤ). Adds item t′ c (textsWith w v) b f s b′ s′ (a .0)) y
+            (subst (λ (c : List ℕ). Adds item t′ n′ c b f s b′ s′ (a .0)) z (a .1))),
+        a .2,
+      )
+
+  -- by the type that was read from the plan
+  pub typed-as : (field : List ℕ) {e : ℕ} {b′ s′ : List ℕ} {r : ℕ} → d ≡ e → ValueAdded item d t n v b f s (field-as d field) b′ s′ r → ValueAdded item e t n v b f s (field-as e field) b′ s′ r
+  typed-as field {e} {b′} {s′} {r} g h = subst (λ (x : ℕ). ValueAdded item x t n v b f s (field-as x field) b′ s′ r) g h
 
 module _ (columns kept ends f : List ℕ) (i : ℕ) (b s : List ℕ) {d : ℕ} (e : d ≡ item-of columns i) where
   pub label-as : 64 ≤ d → Answered columns kept ends f i b s b s false

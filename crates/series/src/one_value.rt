@@ -3,7 +3,10 @@ use field_values::Refusal;
 use replying::Reply;
 use state::Plan;
 use typed_value::Room;
-ghost use Rattle.series.specs.Series.{CellsAdded, FieldAdded};
+ghost use Rattle.series.specs.Series.{CellsAdded, ValueAdded, FieldAdded};
+ghost use Rattle.field_values.specs.Reading.{field-as};
+ghost use Prim.Native.Nat.{_+_};
+ghost use lib.ListN.{getD};
 
 // What the call of add replies to the cells of a field.
 fn add_cells(
@@ -23,7 +26,7 @@ fn add_cells(
     }
 }
 
-// The field goes to these cells and bytes, which are blank, and is added.
+// The field goes to these cells and bytes, and is added.
 fn through(
     texts: &mut [u8],
     plan: &[u32],
@@ -34,7 +37,7 @@ fn through(
     numbers: &mut [i64],
     bytes: &mut [u8],
 ) -> u8
-    ensures { λ r. ⌜ FieldAdded item (now (field .entry)) (now (texts .entry)) (now (plan .entry)) (now (state .entry)) (now (texts .exit)) (now (state .exit)) r ⌝ }
+    ensures { λ r. ⌜ ValueAdded item (getD (now (plan .entry)) (1320 + item) 0) (now (tags .entry)) (now (numbers .entry)) (now (bytes .entry)) (now (texts .entry)) (now (plan .entry)) (now (state .entry)) (field-as (getD (now (plan .entry)) (1320 + item) 0) (now (field .entry))) (now (texts .exit)) (now (state .exit)) r ⌝ }
 {
     let declared = blocks::cell(plan, Plan::ITEM_TYPE + item as usize);
     let refused = field_values::read(declared, field, tags, numbers, bytes);

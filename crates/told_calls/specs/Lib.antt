@@ -1,1 +1,4 @@
 pub mod Told
+pub mod ToldLaws
+pub mod GivenLaws
+pub mod HandedLaws

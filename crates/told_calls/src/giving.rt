@@ -9,7 +9,7 @@ use sentences::write;
 use state::Plan;
 use typed_value::Room;
 use typed_value::Typed;
-ghost use Rattle.told_calls.specs.Told.{GivenBy, ValueGiven};
+ghost use Rattle.told_calls.specs.Told.{CellsGiven, ValueGiven};
 
 // Why the data item does not take what was given.
 fn misfit(rows: &[u32], texts: &[u8], plan: &[u32], d: usize, tags: &[u32]) {
@@ -50,7 +50,7 @@ fn add(
     numbers: &[i64],
     bytes: &[u8],
 )
-    ensures { λ _. ⌜ GivenBy d (now (texts .entry)) (now (plan .entry)) (now (state .entry)) (now (texts .exit)) (now (state .exit)) ⌝ }
+    ensures { λ _. ⌜ CellsGiven d (now (tags .entry)) (now (numbers .entry)) (now (bytes .entry)) (now (texts .entry)) (now (plan .entry)) (now (state .entry)) (now (texts .exit)) (now (state .exit)) ⌝ }
 {
     match schotterei::add(texts, plan, state, d as u64, tags, numbers, bytes) {
         Reply::Done => {
@@ -71,7 +71,7 @@ pub fn give(
     plan: &[u32],
     state: &mut [u32],
 )
-    ensures { λ _. ⌜ ValueGiven (now (rows .entry)) (now (plan .entry)) (now (name .entry)) (now (texts .entry)) (now (state .entry)) (now (texts .exit)) (now (state .exit)) ⌝ }
+    ensures { λ _. ⌜ ValueGiven (now (line .entry)) from (now (rows .entry)) (now (plan .entry)) (now (name .entry)) (now (texts .entry)) (now (state .entry)) (now (texts .exit)) (now (state .exit)) ⌝ }
 {
     let d = known_names::find(rows, texts, plan, Sort::Item, name);
     if known_names::count(plan, Sort::Item) <= d {

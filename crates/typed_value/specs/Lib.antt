@@ -1,4 +1,14 @@
 pub mod Lexemes
 pub mod LexemeLaws
 pub mod Onward
+pub mod Numerals
+pub mod NumeralLaws
 pub mod Texts
+pub mod TextLaws
+pub mod Elements
+pub mod Values
+pub mod Cells
+pub mod CellLaws
+pub mod Readings
+pub mod ReadingLaws
+pub mod Worked

@@ -1,19 +1,23 @@
--- The text of an element, at its place among the bytes. Definitions only.
-use Prim.Native.Nat.{ℕ, _+_, _*_, _≤_, _<_}
-use mathlib.Core.Path.{_≡_}
-use mathlib.Core.Bool.{cond}
-use mathlib.Core.List.{List}
-use lib.Dec.{ltb}
-use lib.IntN.{ℤ, pos}
-use Rattle.parts.specs.Texts.{cells}
-use Rattle.blocks.specs.Blocks.{Copied}
+-- A text between double quotes: where it ends, and how much of it is handed on. Definitions only.
+use Prim.Native.Nat.{ℕ, suc, _+_}
+use mathlib.Core.Bool.{Bool, false, cond}
+use mathlib.Core.List.{List, [], _∷_}
+use lib.Dec.{eqb, ltb}
+use lib.ListN.{drop}
 
 -- as many bytes as a handle can tell: one that is longer stands for all that are beyond the limit
 abbrev pub keptOf : ℕ → ℕ
 keptOf n = cond (ltb n 63) n 63
 
--- the n bytes of s from a place on, as the text of the i-th of 20 elements: 64 bytes for each, and its handle
-pub record TextCopied (s : List ℕ) (from n i : ℕ) (b b′ : List ℕ) (r : ℤ) : Type 0 where
-  pub put : i < 20 → Copied (cells s from (keptOf n)) 0 b (64 * i) 64 b′
-  pub handle : i < 20 → r ≡ pos (64 * i * 64 + keptOf n)
-  pub past : 20 ≤ i → (b′ ≡ b) × (r ≡ pos 0)
+-- a double quote that stands behind the byte a, which is no backslash
+abbrev pub closesOf : ℕ → ℕ → Bool
+closesOf a b = cond (eqb a 92) false (eqb b 34)
+
+-- how many bytes stand before the quote that closes, from the first byte on, which stands behind the byte a
+abbrev pub inside : ℕ → List ℕ → ℕ
+inside a [] = 0
+inside a (b ∷ s) = cond (closesOf a b) 0 (suc (inside b s))
+
+-- the place of the quote that closes a text from here on, behind its opening quote; or the end
+unfoldable pub closeOf : List ℕ → ℕ → ℕ
+closeOf s from = from + inside 34 (drop from s)

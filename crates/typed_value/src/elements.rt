@@ -1,12 +1,19 @@
 // One element of a value, by the byte that it begins with.
 use crate::lexemes::after;
+use crate::lexemes::is_digit;
+use crate::lexemes::is_letter;
 use crate::numerals;
 use crate::steps::Slip;
 use crate::texts;
 use crate::words;
 use parts::byte;
 ghost use mathlib.Core.Path.{_≡_};
+ghost use Prim.Native.Nat.{_<_};
+ghost use lib.IntN.{pos};
 ghost use Rattle.typed_value.specs.Onward.{Onward};
+ghost use Rattle.typed_value.specs.Elements.{slipOf, otherAt, elementAt};
+ghost use Rattle.typed_value.specs.Readings.{elementOf, textAfter};
+ghost use Rattle.typed_value.specs.declared.steps.Slip.the-variants.{Fine};
 
 pub struct Room {}
 
@@ -51,7 +58,7 @@ pub struct Element {
 }
 
 pub fn found(tag: u32, number: i64, place: usize) -> Element
-    ensures { λ r. ⌜ r .place ≡ place ⌝ }
+    ensures { λ r. ⌜ r ≡ record { tag = tag; number = number; place = place; slip = Fine } ⌝ }
 {
     Element {
         tag: tag,
@@ -62,7 +69,7 @@ pub fn found(tag: u32, number: i64, place: usize) -> Element
 }
 
 pub fn wrong(place: usize, slip: Slip) -> Element
-    ensures { λ r. ⌜ r .place ≡ place ⌝ }
+    ensures { λ r. ⌜ r ≡ record { tag = 0; number = pos 0; place = place; slip = slip } ⌝ }
 {
     Element {
         tag: Kind::UNKNOWN,
@@ -72,30 +79,48 @@ pub fn wrong(place: usize, slip: Slip) -> Element
     }
 }
 
+// What is wrong with a byte that begins no element.
+fn slip_of(b: u8) -> Slip
+    ensures { λ r. ⌜ r ≡ slipOf b ⌝ }
+{
+    if b == b'[' {
+        return Slip::Nested;
+    }
+    if b == b'.' {
+        return Slip::Digits;
+    }
+    if b == b'\'' {
+        return Slip::Bare;
+    }
+    Slip::Missing
+}
+
 // What stands here and begins no element but, it may be, a word.
 fn other(s: &[u8], at: usize, bytes: &mut [u8], i: usize) -> Element
-    ensures { λ r. ⌜ Onward (now (s .entry)) at (r .place) ⌝ }
+    requires { ⌜ i < 20 ⌝ }
+    ensures { λ r. ⌜ Onward (now (s .entry)) at (r .place) × (r ≡ elementOf i (otherAt (now (s .entry)) at)) × (now (bytes .exit) ≡ textAfter i (otherAt (now (s .entry)) at) (now (bytes .entry))) ⌝ }
 {
     let b = byte(s, at);
-    if crate::lexemes::is_letter(b) {
+    if is_letter(b) {
         return words::word(s, at, bytes, i);
     }
-    match b {
-        b'[' => wrong(at, Slip::Nested),
-        b'.' => wrong(at, Slip::Digits),
-        b'\'' => wrong(at, Slip::Bare),
-        _ => wrong(at, Slip::Missing),
-    }
+    wrong(at, slip_of(b))
 }
 
 // The i-th element; its text goes to its place among the bytes.
 pub fn read(s: &[u8], at: usize, bytes: &mut [u8], i: usize) -> Element
-    ensures { λ r. ⌜ Onward (now (s .entry)) at (r .place) ⌝ }
+    requires { ⌜ i < 20 ⌝ }
+    ensures { λ r. ⌜ Onward (now (s .entry)) at (r .place) × (r ≡ elementOf i (elementAt (now (s .entry)) at)) × (now (bytes .exit) ≡ textAfter i (elementAt (now (s .entry)) at) (now (bytes .entry))) ⌝ }
 {
-    match byte(s, at) {
-        b'"' => texts::text(s, at, bytes, i),
-        b'-' => numerals::unsigned(s, after(s, at), true),
-        b'0'..=b'9' => numerals::unsigned(s, at, false),
-        _ => other(s, at, bytes, i),
+    let b = byte(s, at);
+    if b == b'"' {
+        return texts::inside(s, after(s, at), bytes, i);
     }
+    if b == b'-' {
+        return numerals::unsigned(s, after(s, at), true);
+    }
+    if is_digit(b) {
+        return numerals::unsigned(s, at, false);
+    }
+    other(s, at, bytes, i)
 }

@@ -4,7 +4,7 @@ ghost use mathlib.Core.Path.{_≡_};
 ghost use mathlib.Core.Bool.{_&&_};
 ghost use lib.Dec.{leb};
 ghost use Rattle.typed_value.specs.Onward.{Onward};
-ghost use Rattle.typed_value.specs.Lexemes.{afterOf, past, blankb, letterb, wordAt};
+ghost use Rattle.typed_value.specs.Lexemes.{afterOf, past, blankb, digitb, letterb, wordAt};
 
 // The place behind one byte.
 pub fn after(s: &[u8], at: usize) -> usize
@@ -51,6 +51,12 @@ fn is_between(b: u8, low: u8, high: u8) -> bool
     false
 }
 
+pub fn is_digit(b: u8) -> bool
+    ensures { λ r. ⌜ r ≡ digitb b ⌝ }
+{
+    is_between(b, b'0', b'9')
+}
+
 // What a bare word is made of.
 pub fn is_letter(b: u8) -> bool
     ensures { λ r. ⌜ r ≡ letterb b ⌝ }
@@ -61,7 +67,7 @@ pub fn is_letter(b: u8) -> bool
     if is_between(b, b'A', b'Z') {
         return true;
     }
-    if is_between(b, b'0', b'9') {
+    if is_digit(b) {
         return true;
     }
     b == b'_'

@@ -4,6 +4,7 @@ mod elements;
 pub mod lexemes;
 mod lists;
 mod numerals;
+mod ones;
 mod steps;
 mod texts;
 mod words;
@@ -11,11 +12,16 @@ mod words;
 pub use elements::Kind;
 pub use elements::Room;
 use lexemes::skip;
+pub use ones::put_text;
+pub use ones::put_unknown;
 pub use steps::Slip;
 use steps::Step;
+ghost use mathlib.Core.Path.{_≡_};
 ghost use Prim.Native.Nat.{_≤_};
 ghost use lib.ListN.{length, take};
 ghost use Rattle.typed_value.specs.Onward.{Placed};
+ghost use Rattle.typed_value.specs.Values.{wholeFrom, typed};
+ghost use Rattle.typed_value.specs.Readings.{endedOf, ReadAs};
 
 // What was read: a value, which stands in the cells then; or what is wrong, and at which place.
 pub enum Typed {
@@ -25,7 +31,7 @@ pub enum Typed {
 
 // What comes of a step, where nothing but blanks may stand behind it.
 fn ended(s: &[u8], t: Step) -> Typed
-    ensures { λ r. ⌜ Placed (now (s .entry)) (t .place) r ⌝ }
+    ensures { λ r. ⌜ Placed (now (s .entry)) (t .place) r × (r ≡ endedOf (now (s .entry)) (t .slip) (t .place)) ⌝ }
 {
     let slip = t.slip;
     if !steps::is_fine(slip) {
@@ -40,7 +46,7 @@ fn ended(s: &[u8], t: Step) -> Typed
 
 // The value that is all of a text from a place on.
 fn whole(s: &[u8], from: usize, tags: &mut [u32], numbers: &mut [i64], bytes: &mut [u8]) -> Typed
-    ensures { λ r. ⌜ Placed (now (s .entry)) from r ⌝ }
+    ensures { λ r. ⌜ Placed (now (s .entry)) from r × ReadAs (now (tags .entry)) (now (numbers .entry)) (now (bytes .entry)) (now (tags .exit)) (now (numbers .exit)) (now (bytes .exit)) r (wholeFrom (now (s .entry)) from) ⌝ }
 {
     let t = lists::value(s, skip(s, from), tags, numbers, bytes);
     ended(s, t)
@@ -55,7 +61,7 @@ pub fn read(
     numbers: &mut [i64],
     bytes: &mut [u8],
 ) -> Typed
-    ensures { λ r. ⌜ (to ≤ length (now (s .entry)) → Placed (take to (now (s .entry))) from r) ⌝ }
+    ensures { λ r. ⌜ (to ≤ length (now (s .entry)) → Placed (take to (now (s .entry))) from r) × ReadAs (now (tags .entry)) (now (numbers .entry)) (now (bytes .entry)) (now (tags .exit)) (now (numbers .exit)) (now (bytes .exit)) r (typed (now (s .entry)) from to) ⌝ }
 {
     if s.len() < to {
         return Typed::Wrong(Slip::Missing, to);

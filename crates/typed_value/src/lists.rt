@@ -9,9 +9,17 @@ use crate::steps::is_fine;
 use crate::steps::reached;
 use blocks::put_cell;
 use parts::byte;
+ghost use mathlib.Core.Path.{_≡_};
+ghost use Prim.Native.Nat.{_+_, _≤_, _<_};
+ghost use lib.ListN.{set};
 ghost use Rattle.typed_value.specs.Onward.{Onward};
+ghost use Rattle.typed_value.specs.Elements.{elementAt};
+ghost use Rattle.typed_value.specs.Values.{nextOf, asOne, elementsAt, listAt, valueAt};
+ghost use Rattle.typed_value.specs.Readings.{stepOf, behindOf, turnOf, ElementPut, ListRead, ValueRead};
 
-fn put_number(numbers: &mut [i64], i: usize, x: i64) {
+pub fn put_number(numbers: &mut [i64], i: usize, x: i64)
+    ensures { λ _. ⌜ now (numbers .exit) ≡ set (now (numbers .entry)) i x ⌝ }
+{
     if i < numbers.len() {
         numbers[i] = x;
     }
@@ -26,11 +34,9 @@ fn put_element(
     bytes: &mut [u8],
     i: usize,
 ) -> Step
-    ensures { λ r. ⌜ Onward (now (s .entry)) at (r .place) ⌝ }
+    requires { ⌜ i < 20 ⌝ }
+    ensures { λ r. ⌜ Onward (now (s .entry)) at (r .place) × (r ≡ stepOf (elementAt (now (s .entry)) at)) × ElementPut i (elementAt (now (s .entry)) at) (now (tags .entry)) (now (numbers .entry)) (now (bytes .entry)) (now (tags .exit)) (now (numbers .exit)) (now (bytes .exit)) ⌝ }
 {
-    if Room::ELEMENTS <= i {
-        return reached(at, Slip::Many);
-    }
     let e = elements::read(s, at, bytes, i);
     put_cell(tags, 1 + i, e.tag);
     put_number(numbers, 1 + i, e.number);
@@ -45,35 +51,36 @@ struct Turn {
     more: bool,
 }
 
+fn turned(place: usize, slip: Slip, more: bool) -> Turn
+    ensures { λ r. ⌜ r ≡ record { place = place; slip = slip; more = more } ⌝ }
+{
+    Turn {
+        place: place,
+        slip: slip,
+        more: more,
+    }
+}
+
 // Where the element behind a comma begins.
 fn next(s: &[u8], at: usize) -> usize
-    ensures { λ r. ⌜ Onward (now (s .entry)) at r ⌝ }
+    ensures { λ r. ⌜ Onward (now (s .entry)) at r × (r ≡ nextOf (now (s .entry)) at) ⌝ }
 {
     skip(s, after(s, at))
 }
 
 // What stands behind an element.
 fn behind(s: &[u8], at: usize) -> Turn
-    ensures { λ r. ⌜ Onward (now (s .entry)) at (r .place) ⌝ }
+    ensures { λ r. ⌜ Onward (now (s .entry)) at (r .place) × (r ≡ behindOf (now (s .entry)) at) ⌝ }
 {
     let q = skip(s, at);
-    match byte(s, q) {
-        b']' => Turn {
-            place: after(s, q),
-            slip: Slip::Fine,
-            more: false,
-        },
-        b',' => Turn {
-            place: next(s, q),
-            slip: Slip::Fine,
-            more: true,
-        },
-        _ => Turn {
-            place: q,
-            slip: Slip::Separator,
-            more: false,
-        },
+    let b = byte(s, q);
+    if b == b']' {
+        return turned(after(s, q), Slip::Fine, false);
     }
+    if b == b',' {
+        return turned(next(s, q), Slip::Fine, true);
+    }
+    turned(q, Slip::Separator, false)
 }
 
 // Reads the i-th element and what stands behind it.
@@ -85,30 +92,28 @@ fn take_turn(
     bytes: &mut [u8],
     i: usize,
 ) -> Turn
-    ensures { λ r. ⌜ Onward (now (s .entry)) at (r .place) ⌝ }
+    requires { ⌜ i < 20 ⌝ }
+    ensures { λ r. ⌜ Onward (now (s .entry)) at (r .place) × (r ≡ turnOf (now (s .entry)) (elementAt (now (s .entry)) at)) × ElementPut i (elementAt (now (s .entry)) at) (now (tags .entry)) (now (numbers .entry)) (now (bytes .entry)) (now (tags .exit)) (now (numbers .exit)) (now (bytes .exit)) ⌝ }
 {
     let t = put_element(s, at, tags, numbers, bytes, i);
     let slip = t.slip;
     if is_fine(slip) {
         return behind(s, t.place);
     }
-    Turn {
-        place: t.place,
-        slip: slip,
-        more: false,
-    }
+    turned(t.place, slip, false)
 }
 
 // The shape of a list of n elements.
-fn put_shape(tags: &mut [u32], n: usize) {
-    if n <= Room::ELEMENTS {
-        put_cell(tags, 0, n as u32 + 1);
-    }
+fn put_shape(tags: &mut [u32], n: usize)
+    requires { ⌜ n ≤ 20 ⌝ }
+    ensures { λ _. ⌜ now (tags .exit) ≡ set (now (tags .entry)) 0 (n + 1) ⌝ }
+{
+    put_cell(tags, 0, n as u32 + 1);
 }
 
 // The elements of a list, from the first on.
 fn elements_of(s: &[u8], at: usize, tags: &mut [u32], numbers: &mut [i64], bytes: &mut [u8]) -> Step
-    ensures { λ r. ⌜ Onward (now (s .entry)) at (r .place) ⌝ }
+    ensures { λ r. ⌜ Onward (now (s .entry)) at (r .place) × ListRead 0 (now (tags .entry)) (now (numbers .entry)) (now (bytes .entry)) (now (tags .exit)) (now (numbers .exit)) (now (bytes .exit)) r (elementsAt 20 (now (s .entry)) at) ⌝ }
 {
     let mut p = at;
     let mut n = 0usize;
@@ -125,25 +130,32 @@ fn elements_of(s: &[u8], at: usize, tags: &mut [u32], numbers: &mut [i64], bytes
     reached(p, Slip::Many)
 }
 
-// A list, behind its opening bracket.
+// A list, behind its opening bracket and blanks.
 fn list(s: &[u8], at: usize, tags: &mut [u32], numbers: &mut [i64], bytes: &mut [u8]) -> Step
-    ensures { λ r. ⌜ Onward (now (s .entry)) at (r .place) ⌝ }
+    ensures { λ r. ⌜ Onward (now (s .entry)) at (r .place) × ValueRead (now (tags .entry)) (now (numbers .entry)) (now (bytes .entry)) (now (tags .exit)) (now (numbers .exit)) (now (bytes .exit)) r (listAt (now (s .entry)) at) ⌝ }
 {
-    let p = skip(s, at);
-    if byte(s, p) == b']' {
+    if byte(s, at) == b']' {
         put_shape(tags, 0);
-        return reached(after(s, p), Slip::Fine);
+        return reached(after(s, at), Slip::Fine);
     }
-    elements_of(s, p, tags, numbers, bytes)
+    elements_of(s, at, tags, numbers, bytes)
+}
+
+// One element.
+fn one(s: &[u8], at: usize, tags: &mut [u32], numbers: &mut [i64], bytes: &mut [u8]) -> Step
+    ensures { λ r. ⌜ Onward (now (s .entry)) at (r .place) × ValueRead (now (tags .entry)) (now (numbers .entry)) (now (bytes .entry)) (now (tags .exit)) (now (numbers .exit)) (now (bytes .exit)) r (asOne (elementAt (now (s .entry)) at)) ⌝ }
+{
+    let t = put_element(s, at, tags, numbers, bytes, 0);
+    put_cell(tags, 0, 0);
+    t
 }
 
 // The value that stands here.
 pub fn value(s: &[u8], at: usize, tags: &mut [u32], numbers: &mut [i64], bytes: &mut [u8]) -> Step
-    ensures { λ r. ⌜ Onward (now (s .entry)) at (r .place) ⌝ }
+    ensures { λ r. ⌜ Onward (now (s .entry)) at (r .place) × ValueRead (now (tags .entry)) (now (numbers .entry)) (now (bytes .entry)) (now (tags .exit)) (now (numbers .exit)) (now (bytes .exit)) r (valueAt (now (s .entry)) at) ⌝ }
 {
     if byte(s, at) == b'[' {
-        return list(s, after(s, at), tags, numbers, bytes);
+        return list(s, next(s, at), tags, numbers, bytes);
     }
-    put_cell(tags, 0, 0);
-    put_element(s, at, tags, numbers, bytes, 0)
+    one(s, at, tags, numbers, bytes)
 }

@@ -4,14 +4,24 @@ use crate::elements::Kind;
 use crate::elements::found;
 use crate::elements::wrong;
 use crate::lexemes::after;
+use crate::lexemes::is_digit;
 use crate::steps::Slip;
 use limits::Literal;
 use numbers::Num;
 use parts::byte;
-ghost use Prim.Native.Nat.{_≤_};
+ghost use mathlib.Core.Path.{_≡_};
+ghost use Prim.Native.Nat.{ℕ, _≤_};
+ghost use lib.ListN.{drop};
 ghost use Rattle.typed_value.specs.Onward.{Onward};
+ghost use Rattle.typed_value.specs.Lexemes.{digitb, past};
+ghost use Rattle.typed_value.specs.Numerals.{decimal, keptNumber, withDigit, signedOf, thousandthsOf};
+ghost use Rattle.typed_value.specs.Elements.{realAt, numberAt};
+ghost use Rattle.typed_value.specs.Readings.{elementOf};
 
-// No number within the limits is greater; one beyond it stands for all that are.
+// With one digit more, a greater number is beyond every limit.
+const GREAT: u64 = 200_000_000;
+
+// One number beyond every limit stands for all that are.
 const GREATEST: u64 = 10_000_000_000;
 
 // Digits, and the place behind them.
@@ -20,21 +30,12 @@ struct Numeral {
     place: usize,
 }
 
-fn is_digit(b: u8) -> bool {
-    match b {
-        b'0'..=b'9' => true,
-        _ => false,
-    }
-}
-
 // A number with one digit more.
 fn with_digit(n: u64, b: u8) -> u64
-    ensures { λ r. ⌜ r ≤ 10000000000 ⌝ }
+    requires { ⌜ 48 ≤ b ⌝ }
+    ensures { λ r. ⌜ (r ≤ 10000000000) × (r ≡ withDigit n b) ⌝ }
 {
-    if b < b'0' {
-        return 0;
-    }
-    if GREATEST / 100 < n {
+    if GREAT < n {
         return GREATEST;
     }
     n * 10 + (b - b'0') as u64
@@ -42,7 +43,7 @@ fn with_digit(n: u64, b: u8) -> u64
 
 // The digits that stand here.
 fn digits(s: &[u8], at: usize) -> Numeral
-    ensures { λ r. ⌜ Onward (now (s .entry)) at (r .place) × (r .value ≤ 10000000000) ⌝ }
+    ensures { λ r. ⌜ Onward (now (s .entry)) at (r .place) × (r .value ≤ 10000000000) × (r .value ≡ keptNumber (decimal 0 (drop at (now (s .entry))))) × (r .place ≡ past digitb (now (s .entry)) at) ⌝ }
 {
     let mut n = 0u64;
     let mut p = at;
@@ -57,7 +58,9 @@ fn digits(s: &[u8], at: usize) -> Numeral
 }
 
 // A number with its sign; one beyond every limit stands for all that are.
-fn signed(minus: bool, n: u64) -> i64 {
+fn signed(minus: bool, n: u64) -> i64
+    ensures { λ r. ⌜ r ≡ signedOf minus n ⌝ }
+{
     let zero = Num::REAL_LIMIT as u64;
     if zero < n {
         return parts::literal(u32::MAX);
@@ -70,22 +73,22 @@ fn signed(minus: bool, n: u64) -> i64 {
 
 // The thousandths that so many digits behind the point stand for.
 fn thousandths(n: u64, count: usize) -> u64
-    ensures { λ r. ⌜ r ≤ 1000000000000 ⌝ }
+    requires { ⌜ n ≤ 10000000000 ⌝ }
+    ensures { λ r. ⌜ (r ≤ 1000000000000) × (r ≡ thousandthsOf n count) ⌝ }
 {
-    if GREATEST < n {
-        return GREATEST;
+    if count == 1 {
+        return n * 100;
     }
-    match count {
-        1 => n * 100,
-        2 => n * 10,
-        _ => n,
+    if count == 2 {
+        return n * 10;
     }
+    n
 }
 
 // A real, whose point stands here.
 fn real(s: &[u8], at: usize, minus: bool, whole: u64) -> Element
     requires { ⌜ whole ≤ 10000000000 ⌝ }
-    ensures { λ r. ⌜ Onward (now (s .entry)) at (r .place) ⌝ }
+    ensures { λ r. ⌜ Onward (now (s .entry)) at (r .place) × ((n i : ℕ) → whole ≡ keptNumber n → r ≡ elementOf i (realAt minus (now (s .entry)) at n)) ⌝ }
 {
     let from = after(s, at);
     let d = digits(s, from);
@@ -103,7 +106,7 @@ fn real(s: &[u8], at: usize, minus: bool, whole: u64) -> Element
 
 // A number without its sign.
 pub fn unsigned(s: &[u8], at: usize, minus: bool) -> Element
-    ensures { λ r. ⌜ Onward (now (s .entry)) at (r .place) ⌝ }
+    ensures { λ r. ⌜ Onward (now (s .entry)) at (r .place) × ((i : ℕ) → r ≡ elementOf i (numberAt minus (now (s .entry)) at)) ⌝ }
 {
     let d = digits(s, at);
     let p = d.place;

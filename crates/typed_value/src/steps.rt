@@ -32,7 +32,7 @@ pub struct Step {
 }
 
 pub fn reached(place: usize, slip: Slip) -> Step
-    ensures { λ r. ⌜ (r .place ≡ place) × (r .slip ≡ slip) ⌝ }
+    ensures { λ r. ⌜ r ≡ record { place = place; slip = slip } ⌝ }
 {
     Step {
         place: place,

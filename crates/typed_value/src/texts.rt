@@ -9,12 +9,19 @@ use crate::steps::Slip;
 use parts::HANDLE;
 use parts::byte;
 ghost use mathlib.Core.Path.{_≡_};
-ghost use Prim.Native.Nat.{_≤_};
+ghost use Prim.Native.Nat.{_+_, _*_, _≤_, _<_};
+ghost use lib.IntN.{pos};
+ghost use Rattle.parts.specs.Texts.{cells};
 ghost use Rattle.typed_value.specs.Onward.{Onward};
-ghost use Rattle.typed_value.specs.Texts.{keptOf, TextCopied};
+ghost use Rattle.typed_value.specs.Texts.{keptOf, closesOf, closeOf};
+ghost use Rattle.typed_value.specs.Elements.{textFrom};
+ghost use Rattle.typed_value.specs.Cells.{spread};
+ghost use Rattle.typed_value.specs.Readings.{elementOf, textAfter};
 
 // Whether a quote closes that stands behind this byte.
-fn closes(before: u8, b: u8) -> bool {
+fn closes(before: u8, b: u8) -> bool
+    ensures { λ r. ⌜ r ≡ closesOf before b ⌝ }
+{
     if before == b'\\' {
         return false;
     }
@@ -23,7 +30,7 @@ fn closes(before: u8, b: u8) -> bool {
 
 // The place of the quote that closes the text from here on, or the end.
 fn close(s: &[u8], from: usize) -> usize
-    ensures { λ r. ⌜ Onward (now (s .entry)) from r ⌝ }
+    ensures { λ r. ⌜ Onward (now (s .entry)) from r × (r ≡ closeOf (now (s .entry)) from) ⌝ }
 {
     let mut before = b'"';
     let mut p = from;
@@ -38,7 +45,7 @@ fn close(s: &[u8], from: usize) -> usize
 }
 
 // As many bytes as a handle can tell: one that is longer stands for all that are beyond the limit.
-fn kept(n: usize) -> usize
+pub fn kept(n: usize) -> usize
     ensures { λ r. ⌜ (r ≤ 63) × (r ≡ keptOf n) ⌝ }
 {
     if n < Room::KEPT {
@@ -49,11 +56,9 @@ fn kept(n: usize) -> usize
 
 // The text of the i-th element: `n` bytes from here on, to its place among the bytes. The answer is its handle.
 pub fn copy(s: &[u8], from: usize, n: usize, bytes: &mut [u8], i: usize) -> i64
-    ensures { λ r. ⌜ TextCopied (now (s .entry)) from n i (now (bytes .entry)) (now (bytes .exit)) r ⌝ }
+    requires { ⌜ i < 20 ⌝ }
+    ensures { λ r. ⌜ (r ≡ pos (64 * i * 64 + keptOf n)) × (now (bytes .exit) ≡ spread (cells (now (s .entry)) from (keptOf n)) (64 * i) 64 (now (bytes .entry))) ⌝ }
 {
-    if Room::ELEMENTS <= i {
-        return 0;
-    }
     let k = kept(n);
     let place = Room::TEXT * i;
     blocks::copy_text(s, from, k, bytes, place, Room::TEXT);
@@ -61,19 +66,13 @@ pub fn copy(s: &[u8], from: usize, n: usize, bytes: &mut [u8], i: usize) -> i64
 }
 
 // The text of the i-th element, behind its opening quote.
-fn inside(s: &[u8], from: usize, bytes: &mut [u8], i: usize) -> Element
-    ensures { λ r. ⌜ Onward (now (s .entry)) from (r .place) ⌝ }
+pub fn inside(s: &[u8], from: usize, bytes: &mut [u8], i: usize) -> Element
+    requires { ⌜ i < 20 ⌝ }
+    ensures { λ r. ⌜ Onward (now (s .entry)) from (r .place) × (r ≡ elementOf i (textFrom (now (s .entry)) from)) × (now (bytes .exit) ≡ textAfter i (textFrom (now (s .entry)) from) (now (bytes .entry))) ⌝ }
 {
     let p = close(s, from);
     if byte(s, p) != b'"' {
         return wrong(from, Slip::Unclosed);
     }
     found(Kind::TEXT, copy(s, from, p - from, bytes, i), after(s, p))
-}
-
-// The text of the i-th element, whose opening quote stands here.
-pub fn text(s: &[u8], at: usize, bytes: &mut [u8], i: usize) -> Element
-    ensures { λ r. ⌜ Onward (now (s .entry)) at (r .place) ⌝ }
-{
-    inside(s, after(s, at), bytes, i)
 }

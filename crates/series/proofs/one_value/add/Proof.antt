@@ -1,5 +1,6 @@
--- `add`: nothing where the field is empty.
-use Rattle.series.specs.Series.{no-field}
+-- `add`: nothing where the field is empty, else what comes of it in blank cells.
+use Rattle.series.specs.Series.{no-field, a-field}
+use native.Mathlib.Omega.{arith}
 use borrow.Author.Needs.{needs}
 use Rattle.series.proofs.one_value.add.Statement.{statement}
 use Rattle.series.proofs.one_value.add.Tie as tie
@@ -8,7 +9,7 @@ returns : tie.Need-returns
 returns c = no-field (c .if1 .taken)
 
 returns-2 : tie.Need-returns-2
-returns-2 c = c .before .before .before .before .before .before .before .through .ensures
+returns-2 c = a-field (λ e. omega arith) (c .before .before .before .before .before .before .before .through .ensures)
 
 pub add-spec : {M : Type 1} → statement M
 add-spec =

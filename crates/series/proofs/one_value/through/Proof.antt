@@ -1,5 +1,5 @@
 -- `through`: refused as it is read, or what the call replies.
-use Rattle.series.specs.SeriesLaws.{refused-as, called-as}
+use Rattle.series.specs.SeriesLaws.{refused-as, called-as, typed-as}
 use borrow.Author.Needs.{needs}
 use Rattle.series.proofs.one_value.through.Statement.{statement}
 use Rattle.series.proofs.one_value.through.Tie as tie
@@ -7,12 +7,14 @@ use Rattle.series.proofs.one_value.through.Tie as tie
 returns : tie.Need-returns
 returns c =
     let a = c .before .before .before .before .before .before .before .before .before .before .before .before .before .before .before .before .before .args in
-    refused-as (a .item) (a .field .now) (a .texts .now) (a .plan .now) (a .state .now) (c .before .before .before .before .before .before .before .before .before .before .cell .ensures) (c .before .before .before .before .before .before .read .result) (c .before .before .before .before .before .before .read .ensures) (c .if1 .taken)
+    typed-as (a .item) (a .texts .now) (a .plan .now) (a .state .now) (a .field .now) (c .before .before .before .before .before .before .before .before .before .before .cell .ensures)
+    (refused-as (a .item) (a .texts .now) (a .plan .now) (a .state .now) (c .before .before .before .before .before .before .read .ensures) (c .if1 .taken))
 
 returns-2 : tie.Need-returns-2
 returns-2 c =
     let a = c .before .before .before .before .before .before .before .before .before .before .before .before .before .before .before .before .before .before .before .before .before .before .before .before .before .before .before .args in
-    called-as (a .item) (a .field .now) (a .texts .now) (a .plan .now) (a .state .now) (c .before .before .before .before .before .before .before .before .before .before .before .before .before .before .before .before .before .before .before .before .cell .ensures) (c .before .before .before .before .before .before .before .before .before .before .before .before .before .before .before .before .read .result) (c .before .before .before .before .add-cells .result) _ _ _ _ _ (c .before .before .before .before .before .before .before .before .before .before .before .before .before .before .before .before .read .ensures) (c .before .before .before .before .before .before .before .before .before .before .if1 .left) (c .before .before .before .before .add-cells .ensures)
+    typed-as (a .item) (a .texts .now) (a .plan .now) (a .state .now) (a .field .now) (c .before .before .before .before .before .before .before .before .before .before .before .before .before .before .before .before .before .before .before .before .cell .ensures)
+    (called-as (a .item) (a .texts .now) (a .plan .now) (a .state .now) _ _ _ (c .before .before .before .before .before .before .before .before .before .before .before .before .before .before .before .before .read .ensures) (c .before .before .before .before .before .before .before .before .before .before .if1 .left) (c .before .before .before .before .add-cells .ensures))
 
 pub through-spec : {M : Type 1} → statement M
 through-spec =
