@@ -55,7 +55,7 @@ quitb (Unclear at) = false
 
 -- z the rows, x the parts, f the plan, w who waits for whom: a command of a line leads from the text bytes b and the state s to others
 pub data Obeys (z x f : List ℕ) (w : List (List Bool)) (line b s : List ℕ) : Command → List ℕ → List ℕ → Type 0 where
-  gives : {from to at : ℕ} {b′ s′ : List ℕ} → ValueGiven z f (between line from to) b s b′ s′ → Obeys z x f w line b s (Give from to at) b′ s′
+  gives : {from to at : ℕ} {b′ s′ : List ℕ} → ValueGiven line at z f (between line from to) b s b′ s′ → Obeys z x f w line b s (Give from to at) b′ s′
   runs : {b′ s′ : List ℕ} → RunTold 256 x b f w s b′ s′ → Obeys z x f w line b s Run b′ s′
   runs-for : {n : ℕ} {b′ s′ : List ℕ} → RunTold n x b f w s b′ s′ → Obeys z x f w line b s (RunFor n) b′ s′
   confirms : {from to : ℕ} {s′ : List ℕ} → TaskConfirmed z b f (between line from to) s s′ → Obeys z x f w line b s (Confirm from to) b s′

@@ -31,8 +31,8 @@ module _ {z x f : List ℕ} {w : List (List Bool)} {line b s : List ℕ} {c : Co
   told : {d : Command} {b′ s′ : List ℕ} → c ≡ d → Obeys z x f w line b s d b′ s′ → Obeys z x f w line b s c b′ s′
   told {b′} {s′} e h = subst (λ (k : Command). Obeys z x f w line b s k b′ s′) (sym e) h
 
-  pub as-given : {from to at : ℕ} {name b′ s′ : List ℕ} → c ≡ Give from to at → name ≡ between line from to → ValueGiven z f name b s b′ s′ → Obeys z x f w line b s c b′ s′
-  as-given {b′} {s′} e n h = told e (gives (subst (λ (v : List ℕ). ValueGiven z f v b s b′ s′) n h))
+  pub as-given : {from to at : ℕ} {name b′ s′ : List ℕ} → c ≡ Give from to at → name ≡ between line from to → ValueGiven line at z f name b s b′ s′ → Obeys z x f w line b s c b′ s′
+  as-given {at} {b′} {s′} e n h = told e (gives (subst (λ (v : List ℕ). ValueGiven line at z f v b s b′ s′) n h))
 
   pub as-run : {b′ s′ : List ℕ} → c ≡ Run → RunTold 256 x b f w s b′ s′ → Obeys z x f w line b s c b′ s′
   as-run e h = told e (runs h)
