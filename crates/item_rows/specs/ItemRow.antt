@@ -2,10 +2,12 @@
 use Prim.Native.Nat.{ℕ, _+_, _*_, _<_}
 use native.Mathlib.Omega.{arith}
 use mathlib.Core.Path.{_≡_, refl, sym, ap, subst, _∙_}
-use mathlib.Core.Bool.{Bool}
+use mathlib.Core.Bool.{Bool, true, false, cond}
 use mathlib.Core.List.{List}
 use mathlib.Core.Option.{Option, none, some}
+use lib.Dec.{eqb}
 use lib.ListN.{getD}
+use borrow.Author.Tests.{eq-eqb, ne-eqb}
 use Rattle.paper_expressions.specs.Laws.Search.{no-clash}
 use Rattle.paper_expressions.specs.Values.{one, text}
 use Rattle.paper_expressions.specs.Values as paper
@@ -21,12 +23,8 @@ use Kept.{Moving, adds}
 use Rattle.paper_calls.specs.Calls as Calls
 use Calls.{no-row, shows-value, shows-class, shows-type, shown-value, shown-class, shown-type, row}
 use Rattle.parts.specs.Texts.{textAt}
-use Rattle.values.specs.declared.value.Value.{Value}
-use Rattle.values.specs.Meaning.{meaningV}
-use Rattle.evaluator.specs.Columns.{ItemOf, shown}
 use Rattle.truths.specs.Part.{partOf, part-at}
 use Rattle.state.specs.Cell.{Cell}
-use Rattle.state.specs.Items.{there-of}
 use Rattle.holding.specs.Holding.{Holds, ItemAt}
 use Rattle.holding.specs.Values.{item-shown}
 use Rattle.holding.specs.Shown.{kept, planned}
@@ -36,32 +34,26 @@ use Rattle.row_shown.specs.Shown.{Plain, NameOf, type-of, published-row, absent
 use Rattle.row_shown.specs.Cells.{ByCells, plain-published, scalar-published}
 use Rattle.task_rows.specs.Answers.{shows-none}
 use Rattle.task_rows.specs.Listed.{is-property, place-of}
+use Rattle.item_rows.specs.ItemValue.{cells-show, item-value, CellsShow, value-shown, ValueRow}
 use Rattle.item_rows.specs.ItemLaws.{class-told, name-told, type-told}
 
 -- ---- the value
 
-abbrev value-shown : Option paper.Value → Calls.Shown
-value-shown none = no-row
-value-shown (some v) = shows-value v
+pub value-there : (s : List ℕ) (D : ℕ) (r : Row) {t : Bool} → t ≡ eqb (getD s (1864 + 17 * D) 0) 1 → t ≡ true → CellsShow s D (r .value) → Plain OfValue r → ValueRow s D r
+value-there s D r e k z i b =
+    plain-published b r {s = OfValue} i ∙ ap (λ (u : paper.Value). row (shows-value u)) (z b)
+    ∙ ap (λ (u : Bool). row (value-shown (cond u (some (cells-show b s D)) none))) (sym k ∙ e)
 
-abbrev pub ValueRow : List ℕ → ℕ → Row → Type 0
-ValueRow s D r = (b : List ℕ) (o : Option paper.Value) → ItemAt s b D o → published-row b r ≡ row (value-shown o)
+pub value-none : (s : List ℕ) (D : ℕ) (r : Row) {t : Bool} → t ≡ eqb (getD s (1864 + 17 * D) 0) 1 → t ≡ false → Plain NoRow r → ValueRow s D r
+value-none s D r e k i b =
+    plain-published b r {s = NoRow} i ∙ ap (λ (u : Bool). row (value-shown (cond u (some (cells-show b s D)) none))) (sym k ∙ e)
 
-pub value-there : (s : List ℕ) (D : ℕ) (r : Row) {c : ℕ} {tags nums : List ℕ} → D < 64 → c ≡ getD s (1864 + 17 * D) 0 → c ≡ 1 → tags ≡ partOf s 776 1088 → nums ≡ partOf s 1864 1088
-    → ItemOf tags nums D (r .value) → Plain OfValue r → ValueRow s D r
-value-there s D r {tags = tags} {nums = nums} l e k p q z i b o h = go o h
-  where
-    told : (y : Option paper.Value) → ItemAt s b D y → meaningV b (r .value) ≡ shown y
-    told y a =
-        z b ∙ item-shown tags nums D l a (λ j m. ap (λ (u : List ℕ). getD u j 0) p ∙ part-at s 776 1088 j m) (λ j m. ap (λ (u : List ℕ). getD u j 0) q ∙ part-at s 1864 1088 j m)
-
-    go : (y : Option paper.Value) → ItemAt s b D y → published-row b r ≡ row (value-shown y)
-    go none a = absurd (let u = a .there in let v : ⊥ = omega arith in v)
-    go (some v) a = plain-published b r {s = OfValue} i ∙ ap (λ (u : paper.Value). row (shows-value u)) (told (some v) a)
-
-pub value-none : (s : List ℕ) (D : ℕ) (r : Row) {c : ℕ} → c ≡ getD s (1864 + 17 * D) 0 → ¬ (c ≡ 1) → Plain NoRow r → ValueRow s D r
-value-none s D r e n i b none h = plain-published b r {s = NoRow} i
-value-none s D r e n i b (some v) h = absurd (n (e ∙ h .there))
+-- of every state that the tables hold it is the value of the data item
+pub value-held : (s b : List ℕ) (D : ℕ) {o : Option paper.Value} → D < 64 → ItemAt s b D o → item-value b s D ≡ o
+value-held s b D {o = none} l h = let z = h .there in rw (ne-eqb (getD s (1864 + 17 * D) 0) 1 (λ e. omega arith)) refl
+value-held s b D {o = some v} l h =
+    rw (eq-eqb (getD s (1864 + 17 * D) 0) 1 (h .there))
+    (ap some (item-shown (partOf s 776 1088) (partOf s 1864 1088) D l h (part-at s 776 1088) (part-at s 1864 1088)))
 
 -- ---- the rows
 
@@ -113,7 +105,7 @@ module _ (f s : List ℕ) (D : ℕ) (r : Row) where
       (record { shown = shows-type (type-of c); its = present shown-type; published = plain-published b r {s = OfType c} k })
 
   pub of-value : D < 64 → ValueRow s D r → OfItem f s D value r
-  of-value m k g x b w t flag time h l = go (t (data-item № D) value) refl (k b (valueF (t (data-item № D) value)) (h .values D m))
+  of-value m k g x b w t flag time h l = go (t (data-item № D) value) refl (k b ∙ ap (λ (o : Option paper.Value). row (value-shown o)) (value-held s b D m (h .values D m)))
     where
       go : (o : Option RowValue) → t (data-item № D) value ≡ o → published-row b r ≡ row (value-shown (valueF (t (data-item № D) value))) → Shows b value (t (data-item № D) value) r
       go none e z = subst (λ (y : Option RowValue). Shows b value y r) (sym e) (record { shown = no-row; its = absent; published = z ∙ ap (λ (y : Option RowValue). row (value-shown (valueF y))) e })

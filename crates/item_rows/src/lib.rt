@@ -6,18 +6,38 @@ use row_shown::Shown;
 use state::Plan;
 use state::Requested;
 use state::Values;
-ghost use Prim.Native.Nat.{_<_};
-ghost use Rattle.item_rows.specs.ItemRow.{ValueRow, ItemRow};
+use values::Value;
+ghost use mathlib.Core.Path.{_≡_};
+ghost use Prim.Native.Nat.{_+_, _*_, _<_};
+ghost use lib.Dec.{eqb};
+ghost use lib.ListN.{getD};
+ghost use Rattle.item_rows.specs.ItemValue.{CellsShow, ValueRow};
+ghost use Rattle.item_rows.specs.ItemRow.{ItemRow};
+
+// Whether the data item `d` has a value.
+pub fn has_value(s: &[u32], d: usize) -> bool
+    requires { ⌜ d < 64 ⌝ }
+    ensures { λ r. ⌜ r ≡ eqb (getD (now (s .entry)) (1864 + 17 * d) 0) 1 ⌝ }
+{
+    blocks::cell(s, Values::NUMBERS + Values::CELLS * d) == 1
+}
+
+// The value that its cells show.
+pub fn value_of(s: &[u32], d: usize) -> Value
+    ensures { λ r. ⌜ CellsShow (now (s .entry)) d r ⌝ }
+{
+    let tags = truths::part(s, Values::TAGS, Values::ALL);
+    let nums = truths::part(s, Values::NUMBERS, Values::ALL);
+    evaluator::value(tags, nums, d)
+}
 
 // The value of the data item `d`, if it has one.
 fn value(s: &[u32], d: usize) -> Row
     requires { ⌜ d < 64 ⌝ }
     ensures { λ r. ⌜ ValueRow (now (s .entry)) d r ⌝ }
 {
-    if blocks::cell(s, Values::NUMBERS + Values::CELLS * d) == 1 {
-        let tags = truths::part(s, Values::TAGS, Values::ALL);
-        let nums = truths::part(s, Values::NUMBERS, Values::ALL);
-        let v = evaluator::value(tags, nums, d);
+    if has_value(s, d) {
+        let v = value_of(s, d);
         return Row {
             shown: Shown::OfValue,
             value: v,

@@ -1,12 +1,21 @@
 -- The fields of the answer to a sheet: README, "Last season's sheets". Definitions only.
+use mathlib.Core.Path.{_≡_}
 use mathlib.Core.Bool.{Bool, true, false, cond}
 use mathlib.Core.List.{List, [], _∷_, _++_}
+use mathlib.Core.Option.{Option, none, some}
 use Prim.Native.Nat.{ℕ, zero, suc, _+_}
 use lib.Dec.{eqb}
 use lib.ListN.{getD, length}
 use Rattle.paper_expressions.specs.Bytes.{bytes}
-use Rattle.paper_guideline.specs.Line.{digits-of}
+use Rattle.paper_expressions.specs.Values as paper
+use Rattle.paper_guideline.specs.Line.{digits-of, value-written}
 use Rattle.parts.specs.Texts.{textAt}
+use Rattle.values.specs.declared.scalar.Scalar.{Scalar}
+use Rattle.values.specs.declared.scalar.Scalar.the-variants.{Unknown, Truth, Int, Real, Text}
+use Rattle.values.specs.declared.value.Value.{Value}
+use Rattle.values.specs.Meaning.{meaningV}
+use Rattle.item_rows.specs.ItemValue.{item-value}
+use Rattle.headings.specs.Columns.{item-count}
 use Rattle.separated.specs.Quotes.{between, as-written}
 use Rattle.separated.specs.Records.{fieldOf}
 
@@ -49,6 +58,44 @@ no-labels-written columns many separator = each (no-label-written columns separa
 -- nothing in the place of each of n fields
 abbrev pub blanks-written : ℕ → ℕ → List ℕ
 blanks-written n separator = each (λ (d : ℕ). nothing-written separator) 0 n
+
+-- an empty text
+abbrev pub empty-scalar : paper.Scalar → Bool
+empty-scalar paper.unknown = false
+empty-scalar (paper.truth t) = false
+empty-scalar (paper.integer z) = false
+empty-scalar (paper.real z) = false
+empty-scalar (paper.text w) = eqb (length w) 0
+
+abbrev pub empty-text : paper.Value → Bool
+empty-text (paper.one s) = empty-scalar s
+empty-text (paper.sequence l) = false
+
+-- and what the code has of it
+abbrev pub no-bytes : Scalar → Bool
+no-bytes Unknown = false
+no-bytes (Truth t) = false
+no-bytes (Int n) = false
+no-bytes (Real n) = false
+no-bytes (Text h) = eqb (h .len) 0
+
+abbrev pub EmptyText : Value → Bool → Type 0
+EmptyText v r = (texts : List ℕ) → r ≡ empty-text (meaningV texts v)
+
+-- a value as a field: an empty text stands between quotes
+abbrev pub value-field : ℕ → paper.Value → List ℕ
+value-field separator v = cond (empty-text v) (empty-written separator) (field-written separator (value-written v))
+
+abbrev pub if-value : ℕ → Option paper.Value → List ℕ
+if-value separator none = nothing-written separator
+if-value separator (some v) = value-field separator v
+
+-- the values of the data items in the order of the guideline, as the state has them
+abbrev pub item-written : List ℕ → List ℕ → ℕ → ℕ → List ℕ
+item-written texts state separator d = if-value separator (item-value texts state d)
+
+abbrev pub values-written : List ℕ → List ℕ → List ℕ → ℕ → List ℕ
+values-written plan texts state separator = each (item-written texts state separator) 0 (item-count plan)
 
 -- the names of the first n data items, which the plan has by their handles
 abbrev pub name-written : List ℕ → List ℕ → ℕ → ℕ → List ℕ

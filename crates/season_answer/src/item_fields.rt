@@ -3,40 +3,46 @@ use crate::room::empty_text;
 use crate::room::first;
 use crate::room::nothing;
 use headings::count;
-use row_shown::Shown;
-use values::Handle;
 use values::Scalar;
 use values::Value;
-ghost use Prim.Native.Nat.{_<_};
+ghost use mathlib.Core.Path.{_≡_};
+ghost use Prim.Native.Nat.{_≤_, _<_};
+ghost use lib.ListN.{length};
+ghost use Rattle.paper_guideline.specs.Line.{value-written};
+ghost use Rattle.values.specs.Meaning.{meaningV};
 ghost use Rattle.headings.specs.Columns.{item-count};
 ghost use Rattle.digits.specs.Appends.{Appends};
-ghost use Rattle.season_answer.specs.Fields.{blanks-written};
+ghost use Rattle.season_answer.specs.Fields.{no-bytes, EmptyText, value-field, item-written, values-written, blanks-written};
 
-// The number of the property value (section 10).
-const PROPERTY: u64 = 42;
+// The most bytes of a value that cells show: 16 texts of 63 bytes, with a comma and a blank between them, and two brackets.
+const WRITTEN: usize = 1_040;
 
-// The most bytes of a value: 16 texts of 48 bytes, with a comma and a blank between them, and two brackets.
-const WRITTEN: usize = 800;
-
-fn is_nothing(h: Handle) -> bool {
-    h.len == 0
-}
-
-fn is_empty_text(v: Value) -> bool {
-    if v.many {
-        return false;
-    }
-    let s = v.one;
+fn is_empty(s: Scalar) -> bool
+    ensures { λ r. ⌜ r ≡ no-bytes s ⌝ }
+{
     match s {
         Scalar::Unknown => false,
         Scalar::Truth(_) => false,
         Scalar::Int(_) => false,
         Scalar::Real(_) => false,
-        Scalar::Text(h) => is_nothing(h),
+        Scalar::Text(h) => h.len == 0,
     }
 }
 
-fn value(texts: &[u8], v: Value, separator: u8, out: &mut [u8], o: usize) -> usize {
+fn is_empty_text(v: Value) -> bool
+    ensures { λ r. ⌜ EmptyText v r ⌝ }
+{
+    if v.many {
+        return false;
+    }
+    let s = v.one;
+    is_empty(s)
+}
+
+// A value that has room.
+fn value(texts: &[u8], v: Value, separator: u8, out: &mut [u8], o: usize) -> usize
+    ensures { λ r. ⌜ (length (value-written (meaningV (now (texts .entry)) v)) ≤ 1040 → Appends (now (out .entry)) (now (out .exit)) o r (value-field separator (meaningV (now (texts .entry)) v))) ⌝ }
+{
     if is_empty_text(v) {
         return empty_text(separator, out, o);
     }
@@ -46,31 +52,14 @@ fn value(texts: &[u8], v: Value, separator: u8, out: &mut [u8], o: usize) -> usi
 }
 
 // The value of the data item `d`.
-fn item(
-    plan: &[u32],
-    texts: &[u8],
-    state: &[u32],
-    d: usize,
-    separator: u8,
-    out: &mut [u8],
-    o: usize,
-) -> usize
+fn item(texts: &[u8], state: &[u32], d: usize, separator: u8, out: &mut [u8], o: usize) -> usize
     requires { ⌜ d < 64 ⌝ }
+    ensures { λ r. ⌜ Appends (now (out .entry)) (now (out .exit)) o r (item-written (now (texts .entry)) (now (state .entry)) separator d) ⌝ }
 {
-    let r = item_rows::item_row(plan, state, d, PROPERTY);
-    let s = r.shown;
-    let v = r.value;
-    match s {
-        Shown::OfValue => value(texts, v, separator, out, o),
-        Shown::NoRow => nothing(separator, out, o),
-        Shown::There => nothing(separator, out, o),
-        Shown::OfState(_) => nothing(separator, out, o),
-        Shown::OfClass(_) => nothing(separator, out, o),
-        Shown::OfType(_) => nothing(separator, out, o),
-        Shown::OfTime(_) => nothing(separator, out, o),
-        Shown::OfComponent(_, _) => nothing(separator, out, o),
-        Shown::Refused(_) => nothing(separator, out, o),
+    if item_rows::has_value(state, d) {
+        return value(texts, item_rows::value_of(state, d), separator, out, o);
     }
+    nothing(separator, out, o)
 }
 
 // The values of all.
@@ -81,12 +70,14 @@ pub fn item_values(
     separator: u8,
     out: &mut [u8],
     o: usize,
-) -> usize {
+) -> usize
+    ensures { λ r. ⌜ Appends (now (out .entry)) (now (out .exit)) o r (values-written (now (plan .entry)) (now (texts .entry)) (now (state .entry)) separator) ⌝ }
+{
     let n = count(plan);
     let mut p = o;
     let mut d = 0usize;
     while d < n {
-        p = item(plan, texts, state, d, separator, out, p);
+        p = item(texts, state, d, separator, out, p);
         d += 1;
     }
     p

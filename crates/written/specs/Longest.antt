@@ -35,14 +35,20 @@ signed : (f : ℕ → List ℕ) (k : ℕ) → ((m : ℕ) → length (f m) ≤ k)
 signed f k h (pos n) = omega (arith, h n)
 signed f k h (negsuc n) = omega (arith, h (suc n))
 
+pub longest-integer : (z : ℤ) → length (with-sign digits-of z) ≤ 21
+longest-integer z = signed digits-of 20 longest-number z
+
+pub longest-real : (z : ℤ) → length (with-sign with-point z) ≤ 25
+longest-real z = signed with-point 24 pointed z
+
 -- ---- values
 
 longest-scalar : {s : Scalar} → Small s → length (scalar-written s) ≤ text-limit
 longest-scalar unknown-small = omega arith
 longest-scalar (truth-small {b = true}) = omega arith
 longest-scalar (truth-small {b = false}) = omega arith
-longest-scalar (integer-small {n} i) = omega (arith, signed digits-of 20 longest-number n)
-longest-scalar (real-small {n} i) = omega (arith, signed with-point 24 pointed n)
+longest-scalar (integer-small {n} i) = omega (arith, longest-integer n)
+longest-scalar (real-small {n} i) = omega (arith, longest-real n)
 longest-scalar (text-small h) = h
 
 longest-more : {l : List Scalar} → EachSmall l → length (more-written l) ≤ length l * 50 + 1

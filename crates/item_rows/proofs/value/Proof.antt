@@ -8,13 +8,13 @@ use Rattle.item_rows.proofs.value.Tie as tie
 
 returns : tie.Need-returns
 returns c =
-    let a = c .before .before .before .before .before .before .args in
-    value-there (a .s .now) (a .d) (record { shown = OfValue; value = c .value .result }) (c .before .before .before .before .before .before .pre) (c .before .before .before .before .cell .ensures) (c .before .before .before .if1 .taken) (c .before .before .part .ensures) (c .before .part2 .ensures) (c .value .ensures) refl
+    let a = c .before .before .before .before .args in
+    value-there (a .s .now) (a .d) (record { shown = OfValue; value = c .value-of .result }) (c .before .before .has-value .ensures) (c .before .if1 .taken) (c .value-of .ensures) refl
 
 returns-2 : tie.Need-returns-2
 returns-2 c =
     let a = c .before .before .before .before .args in
-    value-none (a .s .now) (a .d) (c .plain .result) (c .before .before .cell .ensures) (c .before .if1 .left) (c .plain .ensures)
+    value-none (a .s .now) (a .d) (c .plain .result) (c .before .before .has-value .ensures) (c .before .if1 .left) (c .plain .ensures)
 
 pub value-spec : {M : Type 1} → statement M
-value-spec = tie.close (tie.spec (λ c. search needs) (λ c. search needs) (λ c κs. search needs) (λ c κs. search needs) (λ c κs. search needs) (λ c κs. search needs) returns (λ c κs. search needs) returns-2)
+value-spec = tie.close (tie.spec (λ c κs. search needs) (λ c κs. search needs) returns (λ c κs. search needs) returns-2)
