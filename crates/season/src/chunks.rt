@@ -8,6 +8,9 @@ use season_lines::plan_of;
 use separated::Scan;
 ghost use Prim.Native.Nat.{_<_, _≤_};
 ghost use lib.ListN.{length};
+ghost use mathlib.Core.Path.{_≡_};
+ghost use Rattle.series.specs.UntilQuiet.{line};
+ghost use Rattle.season.specs.Chunks as sheet;
 
 // What was taken of a chunk: the record is answered, if it ended.
 fn taken(
@@ -21,7 +24,9 @@ fn taken(
     w: Work,
     scan: Scan,
     out: &mut [u8],
-) -> Work {
+) -> Work
+    ensures { λ r. ⌜ sheet.Took (now (tables .entry)) (now (texts .entry)) waits (line (now (columns .entry)) (s .many) (now (kept .entry)) (now (ends .entry)) (s .confirms)) (s .separator) w scan (now (out .entry)) (now (out .exit)) r ⌝ }
+{
     let now = Work {
         scan: scan,
         o: w.o,
@@ -158,7 +163,9 @@ fn read(chunk: &mut [u8]) -> usize
 }
 
 // Writes what stands in the buffer, which then has room again.
-fn emptied(out: &[u8], w: Work) -> Work {
+fn emptied(out: &[u8], w: Work) -> Work
+    ensures { λ r. ⌜ r ≡ sheet.written-out w ⌝ }
+{
     flush(out, w.o);
     let scan = w.scan;
     Work {

@@ -3,6 +3,7 @@ use season_answer::heading;
 use separated::Fault;
 use separated::Scan;
 use separated::Taken;
+ghost use Rattle.season.specs.Chunks.{columns-read};
 ghost use mathlib.Core.Path.{_≡_};
 ghost use Rattle.separated.specs.Reading.{read, reached};
 ghost use Rattle.season.specs.FirstLine.{behind-mark, first-line, is-line, well-line, Headed};
@@ -72,7 +73,7 @@ pub fn is_well(
     ends: &[usize],
     columns: &mut [u32],
 ) -> bool
-    ensures { λ r. ⌜ r ≡ well-line scan (now (plan .entry)) (now (texts .entry)) (now (kept .entry)) (now (ends .entry)) (now (columns .entry)) ⌝ }
+    ensures { λ r. ⌜ (r ≡ well-line scan (now (plan .entry)) (now (texts .entry)) (now (kept .entry)) (now (ends .entry)) (now (columns .entry))) × (now (columns .exit) ≡ columns-read scan (now (plan .entry)) (now (texts .entry)) (now (kept .entry)) (now (ends .entry)) (now (columns .entry))) ⌝ }
 {
     if is_line(scan) {
         if headings::read(plan, texts, kept, ends, scan.fields, columns) {

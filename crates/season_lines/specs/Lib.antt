@@ -1,2 +1,4 @@
 pub mod Lines
 pub mod LinesLaws
+pub mod OneLine
+pub mod OneLineLaws

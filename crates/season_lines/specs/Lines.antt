@@ -1,10 +1,11 @@
 -- The lines of a sheet: how far reading and answering is, and the tables that load left, one behind the other. Definitions only.
 use mathlib.Core.Path.{_≡_}
-use mathlib.Core.Bool.{cond}
+use mathlib.Core.Bool.{Bool, true, cond, not}
 use mathlib.Core.List.{List, _++_}
 use Prim.Native.Nat.{ℕ, _+_, _/_, _<_}
 use lib.Dec.{eqb, ltb}
 use lib.ListN.{getD, length}
+use Rattle.separated.specs.declared.records.Scan.{Scan}
 use Rattle.separated.specs.Records.{begun}
 use Rattle.season_answer.specs.Fields.{no-labels-written, blanks-written, unread-written}
 use Rattle.season_lines.specs.declared.records.Work.{Work}
@@ -20,6 +21,10 @@ one-more n = cond (eqb n 18446744073709551615) n (n + 1)
 -- a record behind so many lines, of which so many are answered
 abbrev pub work : ℕ → ℕ → ℕ → Work
 work lines o answered = record { scan = begun lines; o = o; line = one-more lines; answered = answered }
+
+-- whether a record can't be read: something is wrong with it, or it has another number of fields than there are columns
+abbrev pub is-spoilt : Scan → ℕ → Bool
+is-spoilt s many = cond (eqb (s .fault) 0) (not (eqb (s .fields) many)) true
 
 -- a line that can't be read: nothing but that it is unread
 abbrev pub unread-line : List ℕ → ℕ → ℕ → ℕ → List ℕ

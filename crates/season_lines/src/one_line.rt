@@ -17,9 +17,16 @@ use separated::field;
 use series::Ended;
 use state::Plan;
 use state::cell;
+ghost use mathlib.Core.Path.{_≡_};
+ghost use mathlib.Core.List.{List, _++_};
+ghost use Prim.Native.Nat.{ℕ};
+ghost use lib.ListN.{length};
 ghost use Rattle.digits.specs.Appends.{Appends};
 ghost use Rattle.headings.specs.Columns.{item-count};
+ghost use Rattle.season_answer.specs.Fields as fields;
+ghost use Rattle.series.specs.UntilQuiet as calls;
 ghost use Rattle.season_lines.specs.Lines.{unread-line};
+ghost use Rattle.season_lines.specs.OneLine as answers;
 
 // What is the same for all lines: the number of columns, the separator, whether actions are confirmed.
 pub struct Season {
@@ -34,6 +41,14 @@ struct First {
     name: usize,
 }
 
+// Tells the refusal of the field `f` in the column `i`, if there is one.
+fn tell(line: u64, i: usize, texts: &[u8], name: usize, number: u8, f: &[u8], declared: u32) {
+    if number == Refusal::NONE {
+        return;
+    }
+    season_reports::value(line, i, texts, name, number, f, declared);
+}
+
 // Adds the field `i`: the number of its refusal, which is told, or none.
 fn add_field(
     plan: &[u32],
@@ -44,7 +59,9 @@ fn add_field(
     line: u64,
     texts: &mut [u8],
     state: &mut [u32],
-) -> First {
+) -> First
+    ensures { λ r. ⌜ answers.Entered (now (columns .entry)) (now (kept .entry)) (now (ends .entry)) (now (plan .entry)) i (now (texts .entry)) (now (state .entry)) (now (texts .exit)) (now (state .exit)) (r .number) (r .name) ⌝ }
+{
     let d = series::item_of(columns, i);
     let name = cell(plan, Plan::ITEM_NAME, d);
     if DataItems::LIMIT <= d {
@@ -55,10 +72,8 @@ fn add_field(
     }
     let f = field(kept, ends, i);
     let number = series::add(texts, plan, state, d as u32, f);
-    if number != Refusal::NONE {
-        let declared = blocks::cell(plan, Plan::ITEM_TYPE + d);
-        season_reports::value(line, i, texts, name, number, f, declared);
-    }
+    let declared = blocks::cell(plan, Plan::ITEM_TYPE + d);
+    tell(line, i, texts, name, number, f, declared);
     First {
         number: number,
         name: name,
@@ -66,7 +81,9 @@ fn add_field(
 }
 
 // The first of two.
-fn earlier(a: First, b: First) -> First {
+fn earlier(a: First, b: First) -> First
+    ensures { λ r. ⌜ (r .number ≡ answers.earlier (a .number) (a .number) (b .number)) × (r .name ≡ answers.earlier (a .number) (a .name) (b .name)) ⌝ }
+{
     if a.number != Refusal::NONE {
         return a;
     }
@@ -83,7 +100,9 @@ fn add_fields(
     line: u64,
     texts: &mut [u8],
     state: &mut [u32],
-) -> First {
+) -> First
+    ensures { λ r. ⌜ answers.AllEntered (now (columns .entry)) (now (kept .entry)) (now (ends .entry)) (now (plan .entry)) (now (texts .entry)) (now (state .entry)) many (now (texts .exit)) (now (state .exit)) (r .number) (r .name) ⌝ }
+{
     let mut r = First {
         number: Refusal::NONE,
         name: 0,
@@ -105,7 +124,9 @@ fn write_refused(
     separator: u8,
     out: &mut [u8],
     o: usize,
-) -> usize {
+) -> usize
+    ensures { λ p. ⌜ Appends (now (out .entry)) (now (out .exit)) o p (fields.blanks-written (item-count (now (plan .entry))) separator ++ fields.refused-written (r .number) (now (texts .entry)) (r .name) separator) ⌝ }
+{
     let p = blanks(plan, separator, out, o);
     refused(r.number, texts, r.name, separator, out, p)
 }
@@ -119,7 +140,9 @@ fn write_ended(
     separator: u8,
     out: &mut [u8],
     o: usize,
-) -> usize {
+) -> usize
+    ensures { λ r. ⌜ Appends (now (out .entry)) (now (out .exit)) o r (fields.values-written (now (plan .entry)) (now (texts .entry)) (now (state .entry)) separator ++ fields.reached-written (now (plan .entry)) (now (texts .entry)) (now (state .entry)) separator ++ fields.ended-written (e .ending) (e .cycles) separator) ⌝ }
+{
     let p = item_values(plan, texts, state, separator, out, o);
     let q = reached(plan, texts, state, separator, out, p);
     ended(e.ending, e.cycles, separator, out, q)
@@ -139,7 +162,9 @@ fn in_tables(
     state: &mut [u32],
     out: &mut [u8],
     o: usize,
-) -> usize {
+) -> usize
+    ensures { λ r. ⌜ ((w : List ℕ) × answers.Written (now (parts .entry)) (now (plan .entry)) waits (calls.line (now (columns .entry)) (s .many) (now (kept .entry)) (now (ends .entry)) (s .confirms)) (s .separator) (now (texts .entry)) (now (state .entry)) (now (texts .exit)) (now (state .exit)) w × Appends (now (out .entry)) (now (out .exit)) o r w) ⌝ }
+{
     let r = add_fields(plan, columns, s.many, kept, ends, line, texts, state);
     if r.number != Refusal::NONE {
         return write_refused(plan, texts, r, s.separator, out, o);
@@ -169,13 +194,15 @@ fn in_copies(
     ends: &[usize],
     s: Season,
     line: u64,
-    texts_of_line: &mut [u8],
-    state_of_line: &mut [u32],
+    bytes: &mut [u8],
+    cells: &mut [u32],
     out: &mut [u8],
     o: usize,
-) -> usize {
-    blocks::copy_bytes(texts, 0, texts_of_line, 0, Cells::TEXTS);
-    blocks::copy_cells(state_of(tables), 0, state_of_line, 0, Cells::STATE);
+) -> usize
+    ensures { λ r. ⌜ (length (now (bytes .entry)) ≡ 65536 → length (now (cells .entry)) ≡ 2952 → (w : List ℕ) × answers.FromLoaded (now (tables .entry)) (now (texts .entry)) waits (calls.line (now (columns .entry)) (s .many) (now (kept .entry)) (now (ends .entry)) (s .confirms)) (s .separator) (now (bytes .exit)) (now (cells .exit)) w × Appends (now (out .entry)) (now (out .exit)) o r w) ⌝ }
+{
+    blocks::copy_bytes(texts, 0, bytes, 0, Cells::TEXTS);
+    blocks::copy_cells(state_of(tables), 0, cells, 0, Cells::STATE);
     in_tables(
         parts_of(tables),
         plan_of(tables),
@@ -185,8 +212,8 @@ fn in_copies(
         ends,
         s,
         line,
-        texts_of_line,
-        state_of_line,
+        bytes,
+        cells,
         out,
         o,
     )
@@ -204,7 +231,9 @@ pub fn answer(
     line: u64,
     out: &mut [u8],
     o: usize,
-) -> usize {
+) -> usize
+    ensures { λ r. ⌜ answers.LineAnswered (now (tables .entry)) (now (texts .entry)) waits (calls.line (now (columns .entry)) (s .many) (now (kept .entry)) (now (ends .entry)) (s .confirms)) (s .separator) (now (out .entry)) (now (out .exit)) o r ⌝ }
+{
     let mut texts_of_line = io::large_buffer();
     let mut state_of_line = [0u32; Cells::STATE];
     let p = labels(columns, s.many, kept, ends, s.separator, out, o);

@@ -6,7 +6,10 @@ use crate::one_line::Season;
 use separated::Fault;
 use separated::Scan;
 ghost use mathlib.Core.Path.{_≡_};
+ghost use lib.ListN.{length};
+ghost use Rattle.series.specs.UntilQuiet.{line};
 ghost use Rattle.season_lines.specs.Lines as sheet;
+ghost use Rattle.season_lines.specs.OneLine.{RecordAnswered};
 
 // How far it is: in reading, in the buffer before standard output, and in lines of the sheet and of the answer.
 pub struct Work {
@@ -47,7 +50,9 @@ pub fn begin(lines: u64, o: usize, answered: u64) -> Work
 }
 
 // Whether the record is none, which is told.
-fn is_spoilt(scan: Scan, line: u64, many: usize) -> bool {
+fn is_spoilt(scan: Scan, line: u64, many: usize) -> bool
+    ensures { λ r. ⌜ r ≡ sheet.is-spoilt scan many ⌝ }
+{
     if scan.fault != Fault::NONE {
         season_reports::fault(line, scan.wrong, scan.fault);
         return true;
@@ -69,7 +74,9 @@ fn answered_at(
     s: Season,
     w: Work,
     out: &mut [u8],
-) -> usize {
+) -> usize
+    ensures { λ r. ⌜ RecordAnswered (now (tables .entry)) (now (texts .entry)) waits (line (now (columns .entry)) (s .many) (now (kept .entry)) (now (ends .entry)) (s .confirms)) (s .separator) (w .scan) (now (out .entry)) (now (out .exit)) (sheet.room-at (length (now (out .entry))) (w .o)) r ⌝ }
+{
     let from = room(out, w.o);
     let scan = w.scan;
     if is_spoilt(scan, w.line, s.many) {
@@ -101,7 +108,7 @@ pub fn answer(
     w: Work,
     out: &mut [u8],
 ) -> Work
-    ensures { λ r. ⌜ r ≡ sheet.work (w .scan .lines) (r .o) (sheet.one-more (w .answered)) ⌝ }
+    ensures { λ r. ⌜ (r ≡ sheet.work (w .scan .lines) (r .o) (sheet.one-more (w .answered))) × RecordAnswered (now (tables .entry)) (now (texts .entry)) waits (line (now (columns .entry)) (s .many) (now (kept .entry)) (now (ends .entry)) (s .confirms)) (s .separator) (w .scan) (now (out .entry)) (now (out .exit)) (sheet.room-at (length (now (out .entry))) (w .o)) (r .o) ⌝ }
 {
     let o = answered_at(tables, waits, texts, columns, kept, ends, s, w, out);
     let answered = one_more(w.answered);
