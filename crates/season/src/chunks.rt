@@ -1,6 +1,7 @@
 // A sheet as it comes in chunks: the first line, then all others. It is read through a buffer, so that any number of lines takes the same room.
 use crate::first_line;
 use libc::STDIN_FILENO;
+use limits::WaitTable;
 use season_lines::Season;
 use season_lines::Work;
 use season_lines::flush;
@@ -15,7 +16,7 @@ ghost use Rattle.season.specs.Chunks as sheet;
 // What was taken of a chunk: the record is answered, if it ended.
 fn taken(
     tables: &[u32],
-    waits: [[bool; 32]; 32],
+    waits: WaitTable,
     texts: &[u8],
     columns: &[u32],
     kept: &[u8],
@@ -50,7 +51,7 @@ fn step(
     chunk: &[u8],
     p: Place,
     tables: &[u32],
-    waits: [[bool; 32]; 32],
+    waits: WaitTable,
     texts: &[u8],
     columns: &[u32],
     kept: &mut [u8],
@@ -76,7 +77,7 @@ fn in_chunk(
     chunk: &[u8],
     from: usize,
     tables: &[u32],
-    waits: [[bool; 32]; 32],
+    waits: WaitTable,
     texts: &[u8],
     columns: &[u32],
     kept: &mut [u8],
@@ -180,7 +181,7 @@ fn emptied(out: &[u8], w: Work) -> Work
 fn next(
     chunk: &mut [u8],
     tables: &[u32],
-    waits: [[bool; 32]; 32],
+    waits: WaitTable,
     texts: &[u8],
     columns: &[u32],
     kept: &mut [u8],
@@ -219,7 +220,7 @@ fn next(
 // The last line, where it does not end with a newline.
 fn end(
     tables: &[u32],
-    waits: [[bool; 32]; 32],
+    waits: WaitTable,
     texts: &[u8],
     columns: &[u32],
     kept: &[u8],
@@ -244,7 +245,7 @@ fn lines(
     n: usize,
     at: usize,
     tables: &[u32],
-    waits: [[bool; 32]; 32],
+    waits: WaitTable,
     texts: &[u8],
     columns: &[u32],
     kept: &mut [u8],
@@ -296,7 +297,7 @@ fn behind(
     chunk: &mut [u8],
     b: Begun,
     tables: &[u32],
-    waits: [[bool; 32]; 32],
+    waits: WaitTable,
     texts: &[u8],
     columns: &[u32],
     kept: &mut [u8],
@@ -329,7 +330,7 @@ fn behind(
 // The whole sheet.
 pub fn answer(
     tables: &[u32],
-    waits: [[bool; 32]; 32],
+    waits: WaitTable,
     texts: &[u8],
     chunk: &mut [u8],
     kept: &mut [u8],

@@ -5,6 +5,8 @@
 mod chunks;
 mod first_line;
 
+use limits::WaitTable;
+use limits::Waits;
 use load::Reply;
 use season_answer::Size;
 use season_lines::Cells;
@@ -19,7 +21,7 @@ fn confirms() -> bool {
 }
 
 // What load left, as one table of cells.
-fn all_of(parts: &[u32], plan: &[u32], waits: [[bool; 32]; 32], texts: &[u8], state: &[u32]) {
+fn all_of(parts: &[u32], plan: &[u32], waits: WaitTable, texts: &[u8], state: &[u32]) {
     let mut tables = [0u32; Cells::ALL];
     season_lines::join(parts, plan, state, &mut tables);
     on_sheet(&tables, waits, texts);
@@ -31,7 +33,7 @@ fn room() -> [u8; Size::BUFFER] {
 }
 
 // Reads the sheet through buffers, and answers it.
-fn on_sheet(tables: &[u32], waits: [[bool; 32]; 32], texts: &[u8]) {
+fn on_sheet(tables: &[u32], waits: WaitTable, texts: &[u8]) {
     let mut chunk = io::large_buffer();
     let mut kept = [0u8; Size::KEPT];
     let mut ends = [0usize; headings::Column::LIMIT];
@@ -55,7 +57,7 @@ fn open(text: &[u8]) {
     let mut rows = [0u32; limits::Rows::CELLS];
     let mut parts = [0u32; Cells::PARTS];
     let mut plan = [0u32; Cells::PLAN];
-    let mut waits = [[false; 32]; 32];
+    let mut waits = [[false; Waits::SIDE]; Waits::SIDE];
     let mut texts = io::large_buffer();
     let mut state = [0u32; Cells::STATE];
     match schotterei::load(

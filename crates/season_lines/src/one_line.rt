@@ -5,6 +5,7 @@ use crate::joined::plan_of;
 use crate::joined::state_of;
 use field_values::Refusal;
 use limits::DataItems;
+use limits::WaitTable;
 use season_answer::blanks;
 use season_answer::ended;
 use season_answer::item_values;
@@ -152,7 +153,7 @@ fn write_ended(
 fn in_tables(
     parts: &[u32],
     plan: &[u32],
-    waits: [[bool; 32]; 32],
+    waits: WaitTable,
     columns: &[u32],
     kept: &[u8],
     ends: &[usize],
@@ -187,7 +188,7 @@ fn in_tables(
 // The same, from a copy of the texts and the state that load left.
 fn in_copies(
     tables: &[u32],
-    waits: [[bool; 32]; 32],
+    waits: WaitTable,
     texts: &[u8],
     columns: &[u32],
     kept: &[u8],
@@ -222,7 +223,7 @@ fn in_copies(
 // Answers one line.
 pub fn answer(
     tables: &[u32],
-    waits: [[bool; 32]; 32],
+    waits: WaitTable,
     texts: &[u8],
     columns: &[u32],
     kept: &[u8],

@@ -3,6 +3,7 @@ use crate::buffer::room;
 use crate::joined::plan_of;
 use crate::one_line;
 use crate::one_line::Season;
+use limits::WaitTable;
 use separated::Fault;
 use separated::Scan;
 ghost use mathlib.Core.Path.{_≡_};
@@ -66,7 +67,7 @@ fn is_spoilt(scan: Scan, line: u64, many: usize) -> bool
 
 fn answered_at(
     tables: &[u32],
-    waits: [[bool; 32]; 32],
+    waits: WaitTable,
     texts: &[u8],
     columns: &[u32],
     kept: &[u8],
@@ -99,7 +100,7 @@ fn answered_at(
 // Answers the record.
 pub fn answer(
     tables: &[u32],
-    waits: [[bool; 32]; 32],
+    waits: WaitTable,
     texts: &[u8],
     columns: &[u32],
     kept: &[u8],

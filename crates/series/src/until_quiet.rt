@@ -3,6 +3,7 @@
 use crate::fields::answer_asked;
 use endings::Ending;
 use limits::Tasks;
+use limits::WaitTable;
 use runs::Ran;
 use state::Class;
 use state::Plan;
@@ -38,7 +39,7 @@ fn run_once(
     parts: &[u32],
     texts: &mut [u8],
     plan: &[u32],
-    waits: [[bool; 32]; 32],
+    waits: WaitTable,
     state: &mut [u32],
 ) -> Ended
     ensures { λ r. ⌜ RunsOnce (now (parts .entry)) (now (plan .entry)) waits (now (texts .entry)) (now (state .entry)) (now (texts .exit)) (now (state .exit)) (r .ending) (r .cycles) ⌝ }
@@ -128,7 +129,7 @@ pub fn run(
     parts: &[u32],
     texts: &mut [u8],
     plan: &[u32],
-    waits: [[bool; 32]; 32],
+    waits: WaitTable,
     state: &mut [u32],
     columns: &[u32],
     many: usize,
