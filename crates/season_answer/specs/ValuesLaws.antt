@@ -1,8 +1,8 @@
 -- Laws of the values of data items as fields: what cells show has room in the buffer, and of every state that the tables hold it is the published value.
 use mathlib.Core.Path.{_≡_, refl, sym, ap, ap₂, _∙_}
 use mathlib.Core.Bool.{Bool, true, false, cond}
-use mathlib.Core.List.{List, [], _∷_, _++_}
-use mathlib.Core.Option.{Option, none, some}
+use mathlib.Core.List.{List, _++_}
+use mathlib.Core.Option.{none, some}
 use Prim.Native.Nat.{ℕ, zero, suc, _+_, _*_, _-_, _≤_, _<_}
 use native.Mathlib.Omega.{arith}
 use lib.Dec.{eqb, ltb, leb}
@@ -20,13 +20,13 @@ use Rattle.parts.specs.Texts.{literal}
 use Rattle.values.specs.declared.scalar.Scalar.{Scalar}
 use Rattle.values.specs.declared.scalar.Scalar.the-variants.{Unknown, Truth, Int, Real, Text}
 use Rattle.values.specs.declared.value.Value.{Value}
-use Rattle.values.specs.Meaning.{num, meaning, meaningL, meaningV, valued, handleOf, integerOf, realOf}
+use Rattle.values.specs.Meaning.{num, meaning, meaningL, valued, handleOf, integerOf, realOf}
 use Rattle.evaluator.specs.Columns.{scalarAt, cellAt, cellsAt, shapedAt, shownAt}
 use Rattle.truths.specs.Part.{partOf}
 use Rattle.written.specs.Longest.{longest-integer, longest-real}
 use Rattle.blocks.specs.Blocks.{cells-long}
 use Rattle.holding.specs.Holding.{Holds}
-use Rattle.item_rows.specs.ItemValue.{cells-show, item-value}
+use Rattle.item_rows.specs.ItemValue.{cells-show}
 use Rattle.item_rows.specs.ItemRow.{value-held}
 use Rattle.headings.specs.Columns.{item-count}
 use Rattle.digits.specs.Appends.{Appends}

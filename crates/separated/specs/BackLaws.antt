@@ -10,7 +10,6 @@ use lib.ListN.{getD, length, take, drop, set, length-set, length-append, length-
 use lib.Seq.{sets, length-sets, sets-eq, ext-getD, getD-set-same, getD-set-other, getD-take, getD-drop, getD-append-seam, take-append-seam, drop-at, length-take-le}
 use borrow.Author.Count.{below-more}
 use borrow.Author.Tests.{eqb-true, eqb-false, eq-eqb, ne-eqb, lt-ltb, le-ltb}
-use Rattle.separated.specs.declared.machine.Kind.{Kind}
 use Rattle.separated.specs.declared.machine.Kind.the-variants.{Quote, Newline, Return, Separator, Other}
 use Rattle.separated.specs.declared.machine.Mode.{Mode}
 use Rattle.separated.specs.declared.machine.Mode.the-variants.{Before, Bare, Quoted, Closed}

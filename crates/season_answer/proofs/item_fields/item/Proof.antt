@@ -1,6 +1,6 @@
 -- `item`: the value that its cells show, or none.
-use mathlib.Core.Path.{ap, subst, sym}
-use Prim.Native.Nat.{ℕ, _≤_}
+use mathlib.Core.Path.{subst, sym}
+use Prim.Native.Nat.{_≤_}
 use lib.ListN.{length}
 use Rattle.paper_expressions.specs.Values as paper
 use Rattle.paper_guideline.specs.Line.{value-written}
