@@ -1,5 +1,4 @@
 // Replays the scripts of a batch (docs/REPLAY.md): reads them from standard input and writes the answers of the public calls.
-mod calls;
 mod scripts;
 
 use batch::Next;

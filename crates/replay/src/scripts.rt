@@ -1,13 +1,16 @@
 // A script: whether it is one, and the answers to its calls.
-use crate::calls::line;
 use digits::word;
 use libc::STDERR_FILENO;
 use limits::Expressions;
 use script::is_script;
 use transcript::buffer::flush;
+use transcript_calls::line;
 ghost use mathlib.Core.Path.{_≡_};
-ghost use mathlib.Core.Bool.{false};
+ghost use mathlib.Core.Bool.{true, false};
 ghost use Rattle.script.specs.Scripts.{is-script};
+ghost use Rattle.transcript_rows.specs.Rows.{buffer};
+ghost use Rattle.transcript_calls.specs.Calls.{tables};
+ghost use Rattle.replay.specs.Scripts.{ScriptAnswered, Begun, Replayed};
 
 // Answers the lines, one after the other.
 fn lines(
@@ -18,7 +21,9 @@ fn lines(
     texts: &mut [u8],
     state: &mut [u32],
     out: &mut [u8],
-) -> usize {
+) -> usize
+    ensures { λ r. ⌜ ScriptAnswered (now (s .entry)) (tables (now (parts .entry)) (now (plan .entry)) (now (waits .entry)) (now (texts .entry)) (now (state .entry))) (tables (now (parts .exit)) (now (plan .exit)) (now (waits .exit)) (now (texts .exit)) (now (state .exit))) (buffer (now (out .entry)) 0) (buffer (now (out .exit)) r) ⌝ }
+{
     let mut at = 0usize;
     let mut o = 0usize;
     while at < s.len() {
@@ -33,7 +38,9 @@ fn lines(
 }
 
 // The answers, from blank tables on.
-fn answers(s: &[u8], out: &mut [u8]) -> usize {
+fn answers(s: &[u8], out: &mut [u8]) -> usize
+    ensures { λ r. ⌜ Begun (now (s .entry)) (buffer (now (out .entry)) 0) (buffer (now (out .exit)) r) ⌝ }
+{
     let mut parts = [0u32; Expressions::CELLS];
     let mut plan = [0u32; load::Plan::LEAST];
     let mut waits = [[false; 32]; 32];
@@ -60,7 +67,7 @@ fn no_script() -> bool
 
 // Whether this is a script: then it is answered.
 pub fn replay(s: &[u8], out: &mut [u8]) -> bool
-    ensures { λ r. ⌜ r ≡ is-script (now (s .entry)) ⌝ }
+    ensures { λ r. ⌜ (r ≡ is-script (now (s .entry))) × (r ≡ true → Replayed (now (s .entry)) (now (out .entry)) (now (out .exit))) × (r ≡ false → now (out .exit) ≡ now (out .entry)) ⌝ }
 {
     if is_script(s) {
         let o = answers(s, out);

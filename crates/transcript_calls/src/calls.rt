@@ -12,8 +12,9 @@ use transcript::refused_line;
 use transcript::replied;
 use transcript::shown;
 use transcript_rows::all;
-ghost use mathlib.Core.Path.{_≡_};
-ghost use Rattle.script.specs.Places.{line-of};
+ghost use Rattle.digits.specs.Appends.{Appends};
+ghost use Rattle.transcript_rows.specs.Rows.{buffer};
+ghost use Rattle.transcript_calls.specs.Calls.{tables, ran-written, LoadAnswered, RunsLent, TriggerAnswered, RowAnswered, CallAnswered, LineAnswered};
 
 // The most rows that a script lends.
 const ROWS_LENT: u64 = 8_192;
@@ -36,7 +37,9 @@ fn load(
     state: &mut [u32],
     out: &mut [u8],
     o: usize,
-) -> usize {
+) -> usize
+    ensures { λ r. ⌜ LoadAnswered (now (s .entry)) from to (tables (now (parts .entry)) (now (plan .entry)) (now (waits .entry)) (now (texts .entry)) (now (state .entry))) (tables (now (parts .exit)) (now (plan .exit)) (now (waits .exit)) (now (texts .exit)) (now (state .exit))) (buffer (now (out .entry)) o) (buffer (now (out .exit)) r) ⌝ }
+{
     if to < from {
         return o;
     }
@@ -51,7 +54,9 @@ fn load(
 }
 
 // How a run ended, and the number of its cycles.
-fn ran(r: Ran, out: &mut [u8], o: usize) -> usize {
+fn ran(r: Ran, out: &mut [u8], o: usize) -> usize
+    ensures { λ p. ⌜ Appends (now (out .entry)) (now (out .exit)) o p (ran-written r) ⌝ }
+{
     match r {
         Ran::Quiet(n) => counted(b"quiet", n, out, o),
         Ran::Bounded(n) => counted(b"bounded", n, out, o),
@@ -69,7 +74,9 @@ fn run(
     state: &mut [u32],
     lent: u64,
     bound: u64,
-) -> Ran {
+) -> Ran
+    ensures { λ r. ⌜ RunsLent bound lent (now (parts .entry)) (now (texts .entry)) (now (plan .entry)) waits (now (state .entry)) (now (texts .exit)) (now (state .exit)) r ⌝ }
+{
     if ROWS_LENT < lent {
         return Ran::Refused(6);
     }
@@ -85,7 +92,9 @@ fn trigger(
     n: usize,
     out: &mut [u8],
     o: usize,
-) -> usize {
+) -> usize
+    ensures { λ r. ⌜ TriggerAnswered (now (bytes .entry)) n (now (texts .entry)) (now (plan .entry)) (now (state .entry)) (now (state .exit)) (buffer (now (out .entry)) o) (buffer (now (out .exit)) r) ⌝ }
+{
     if bytes.len() < n {
         return o;
     }
@@ -103,9 +112,11 @@ fn row(
     property: u64,
     out: &mut [u8],
     o: usize,
-) -> usize {
-    let r = schotterei::read(plan, waits, state, kind, number, property);
-    let p = shown(texts, r, out, o);
+) -> usize
+    ensures { λ r. ⌜ RowAnswered kind number property (now (texts .entry)) (now (plan .entry)) waits (now (state .entry)) (buffer (now (out .entry)) o) (buffer (now (out .exit)) r) ⌝ }
+{
+    let row = schotterei::read(plan, waits, state, kind, number, property);
+    let p = shown(texts, row, out, o);
     byte(b'\n', out, p)
 }
 
@@ -123,7 +134,9 @@ fn answer(
     state: &mut [u32],
     out: &mut [u8],
     o: usize,
-) -> usize {
+) -> usize
+    ensures { λ r. ⌜ CallAnswered (now (s .entry)) (now (tags .entry)) (now (numbers .entry)) (now (bytes .entry)) (l .call) (tables (now (parts .entry)) (now (plan .entry)) (now (waits .entry)) (now (texts .entry)) (now (state .entry))) (tables (now (parts .exit)) (now (plan .exit)) (now (waits .exit)) (now (texts .exit)) (now (state .exit))) (buffer (now (out .entry)) o) (buffer (now (out .exit)) r) ⌝ }
+{
     let c = l.call;
     match c {
         Call::Load(from, to) => load(s, from, to, parts, plan, waits, texts, state, out, o),
@@ -163,7 +176,7 @@ pub fn line(
     out: &mut [u8],
     o: usize,
 ) -> Answered
-    ensures { λ r. ⌜ r .next ≡ line-of (now (s .entry)) at .next ⌝ }
+    ensures { λ r. ⌜ LineAnswered (now (s .entry)) at (tables (now (parts .entry)) (now (plan .entry)) (now (waits .entry)) (now (texts .entry)) (now (state .entry))) (tables (now (parts .exit)) (now (plan .exit)) (now (waits .exit)) (now (texts .exit)) (now (state .exit))) (now (out .entry)) (now (out .exit)) o r ⌝ }
 {
     let mut tags = [0u32; Given::CELLS];
     let mut numbers = [0i64; Given::CELLS];
