@@ -2,6 +2,8 @@
 use digits::word;
 use libc::STDERR_FILENO;
 use limits::Expressions;
+use limits::WaitTable;
+use limits::Waits;
 use script::is_script;
 use transcript::buffer::flush;
 use transcript_calls::line;
@@ -17,7 +19,7 @@ fn lines(
     s: &[u8],
     parts: &mut [u32],
     plan: &mut [u32],
-    waits: &mut [[bool; 32]; 32],
+    waits: &mut WaitTable,
     texts: &mut [u8],
     state: &mut [u32],
     out: &mut [u8],
@@ -43,7 +45,7 @@ fn answers(s: &[u8], out: &mut [u8]) -> usize
 {
     let mut parts = [0u32; Expressions::CELLS];
     let mut plan = [0u32; load::Plan::LEAST];
-    let mut waits = [[false; 32]; 32];
+    let mut waits = [[false; Waits::SIDE]; Waits::SIDE];
     let mut texts = [0u8; load::Texts::LEAST];
     let mut state = [0u32; opening::State::LEAST];
     lines(

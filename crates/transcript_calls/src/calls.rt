@@ -2,6 +2,7 @@
 use digits::byte;
 use digits::word;
 use limits::Rows;
+use limits::WaitTable;
 use runs::Ran;
 use script::Call;
 use script::Given;
@@ -32,7 +33,7 @@ fn load(
     to: usize,
     parts: &mut [u32],
     plan: &mut [u32],
-    waits: &mut [[bool; 32]; 32],
+    waits: &mut WaitTable,
     texts: &mut [u8],
     state: &mut [u32],
     out: &mut [u8],
@@ -70,7 +71,7 @@ fn run(
     parts: &[u32],
     texts: &mut [u8],
     plan: &[u32],
-    waits: [[bool; 32]; 32],
+    waits: WaitTable,
     state: &mut [u32],
     lent: u64,
     bound: u64,
@@ -105,7 +106,7 @@ fn trigger(
 fn row(
     texts: &[u8],
     plan: &[u32],
-    waits: [[bool; 32]; 32],
+    waits: WaitTable,
     state: &[u32],
     kind: u64,
     number: u64,
@@ -129,7 +130,7 @@ fn answer(
     bytes: &[u8],
     parts: &mut [u32],
     plan: &mut [u32],
-    waits: &mut [[bool; 32]; 32],
+    waits: &mut WaitTable,
     texts: &mut [u8],
     state: &mut [u32],
     out: &mut [u8],
@@ -170,7 +171,7 @@ pub fn line(
     at: usize,
     parts: &mut [u32],
     plan: &mut [u32],
-    waits: &mut [[bool; 32]; 32],
+    waits: &mut WaitTable,
     texts: &mut [u8],
     state: &mut [u32],
     out: &mut [u8],

@@ -4,6 +4,7 @@ use crate::shown::is_row;
 use crate::shown::refusal;
 use digits::word;
 use limits::Sources;
+use limits::WaitTable;
 use row_read::Kind;
 use row_read::Properties;
 use row_shown::Row;
@@ -44,7 +45,7 @@ fn row_line(
 fn row(
     texts: &[u8],
     plan: &[u32],
-    waits: [[bool; 32]; 32],
+    waits: WaitTable,
     state: &[u32],
     kind: u64,
     number: u64,
@@ -66,7 +67,7 @@ fn row(
 fn component(
     texts: &[u8],
     plan: &[u32],
-    waits: [[bool; 32]; 32],
+    waits: WaitTable,
     state: &[u32],
     kind: u64,
     number: u64,
@@ -85,7 +86,7 @@ fn component(
 }
 
 // Whether there is this component: each has a class.
-fn is_there(plan: &[u32], waits: [[bool; 32]; 32], state: &[u32], kind: u64, number: u64) -> bool
+fn is_there(plan: &[u32], waits: WaitTable, state: &[u32], kind: u64, number: u64) -> bool
     ensures { λ r. ⌜ IsThere (now (plan .entry)) waits (now (state .entry)) kind number r ⌝ }
 {
     let row = schotterei::read(plan, waits, state, kind, number, CLASS);
@@ -97,7 +98,7 @@ fn is_there(plan: &[u32], waits: [[bool; 32]; 32], state: &[u32], kind: u64, num
 fn of_kind(
     texts: &[u8],
     plan: &[u32],
-    waits: [[bool; 32]; 32],
+    waits: WaitTable,
     state: &[u32],
     kind: u64,
     out: &mut [u8],
@@ -120,7 +121,7 @@ fn of_kind(
 fn of_kinds(
     texts: &[u8],
     plan: &[u32],
-    waits: [[bool; 32]; 32],
+    waits: WaitTable,
     state: &[u32],
     out: &mut [u8],
     o: usize,
@@ -139,7 +140,7 @@ fn of_kinds(
 fn listed(
     texts: &[u8],
     plan: &[u32],
-    waits: [[bool; 32]; 32],
+    waits: WaitTable,
     state: &[u32],
     out: &mut [u8],
     o: usize,
@@ -157,7 +158,7 @@ fn listed(
 pub fn all(
     texts: &[u8],
     plan: &[u32],
-    waits: [[bool; 32]; 32],
+    waits: WaitTable,
     state: &[u32],
     out: &mut [u8],
     o: usize,
