@@ -4,9 +4,9 @@ use mathlib.Core.Bool.{false}
 use mathlib.Core.List.{List, [], _∷_}
 use Prim.Native.Nat.{ℕ, _≤_, _<_}
 use lib.ListN.{length, replicate}
-use Rattle.transcript_rows.specs.Rows.{Buffer, buffer, Writes}
-use Rattle.transcript_calls.specs.declared.calls.Answered.{Answered}
-use Rattle.transcript_calls.specs.Calls.{Tables, tables, LineAnswered}
+use Rattle.replay.specs.Rows.{Buffer, buffer, Writes}
+use Rattle.replay.specs.declared.calls.Answered.{Answered}
+use Rattle.replay.specs.Calls.{Tables, tables, LineAnswered}
 
 -- the lines of s up to a place, each behind the one before: they made of the tables t those, and of the buffer x that
 pub data LinesAnswered (s : List ℕ) (t : Tables) (x : Buffer) : ℕ → Tables → Buffer → Type 0 where

@@ -1,5 +1,8 @@
 // Replays the scripts of a batch (docs/REPLAY.md): reads them from standard input and writes the answers of the public calls.
+mod calls;
+mod listing;
 mod scripts;
+mod shown;
 
 use batch::Next;
 

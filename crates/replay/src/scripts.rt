@@ -6,12 +6,12 @@ use limits::WaitTable;
 use limits::Waits;
 use script::is_script;
 use transcript::buffer::flush;
-use transcript_calls::line;
+use crate::calls::line;
 ghost use mathlib.Core.Path.{_≡_};
 ghost use mathlib.Core.Bool.{true, false};
 ghost use Rattle.script.specs.Scripts.{is-script};
-ghost use Rattle.transcript_rows.specs.Rows.{buffer};
-ghost use Rattle.transcript_calls.specs.Calls.{tables};
+ghost use Rattle.replay.specs.Rows.{buffer};
+ghost use Rattle.replay.specs.Calls.{tables};
 ghost use Rattle.replay.specs.Scripts.{ScriptAnswered, Begun, Replayed};
 
 // Answers the lines, one after the other.

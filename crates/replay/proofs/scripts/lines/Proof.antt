@@ -3,8 +3,8 @@ use Prim.Native.Nat.{_-_}
 use mathlib.Core.Path.{_≡_, refl}
 use native.Mathlib.Omega.{arith}
 use lib.ListN.{length}
-use Rattle.transcript_rows.specs.Rows.{buffer}
-use Rattle.transcript_calls.specs.Calls.{tables}
+use Rattle.replay.specs.Rows.{buffer}
+use Rattle.replay.specs.Calls.{tables}
 use Rattle.replay.specs.Scripts.{LinesAnswered, start, further, ended, stopped}
 use borrow.Author.Needs.{needs}
 use Rattle.replay.proofs.scripts.lines.Statement.{statement}
