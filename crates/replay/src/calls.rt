@@ -1,4 +1,5 @@
 // The calls of a script, each answered by the public call of its name.
+use crate::listing::all;
 use digits::byte;
 use digits::word;
 use limits::Rows;
@@ -12,7 +13,6 @@ use transcript::counted;
 use transcript::refused_line;
 use transcript::replied;
 use transcript::shown;
-use crate::listing::all;
 ghost use Rattle.digits.specs.Appends.{Appends};
 ghost use Rattle.replay.specs.Rows.{buffer};
 ghost use Rattle.replay.specs.Calls.{tables, ran-written, LoadAnswered, RunsLent, TriggerAnswered, RowAnswered, CallAnswered, LineAnswered};

@@ -1,4 +1,5 @@
 // A script: whether it is one, and the answers to its calls.
+use crate::calls::line;
 use digits::word;
 use libc::STDERR_FILENO;
 use limits::Expressions;
@@ -6,7 +7,6 @@ use limits::WaitTable;
 use limits::Waits;
 use script::is_script;
 use transcript::buffer::flush;
-use crate::calls::line;
 ghost use mathlib.Core.Path.{_≡_};
 ghost use mathlib.Core.Bool.{true, false};
 ghost use Rattle.script.specs.Scripts.{is-script};

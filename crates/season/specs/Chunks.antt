@@ -6,10 +6,10 @@ use Prim.Native.Nat.{ℕ}
 use lib.ListN.{length}
 use Rattle.separated.specs.declared.records.Scan.{Scan}
 use Rattle.headings.specs.Columns.{of-field, columns-from}
-use Rattle.series.specs.UntilQuiet.{Line}
-use Rattle.season_lines.specs.declared.records.Work.{Work}
-use Rattle.season_lines.specs.Lines.{room-at, one-more, work}
-use Rattle.season_lines.specs.OneLine.{RecordAnswered}
+use Rattle.season.specs.UntilQuiet.{Line}
+use Rattle.season.specs.declared.records.Work.{Work}
+use Rattle.season.specs.Lines.{room-at, one-more, work}
+use Rattle.season.specs.OneLine.{RecordAnswered}
 use Rattle.season.specs.FirstLine.{is-line}
 
 -- what the columns stand for, once the first line was read; one that is no record leaves them as they were

@@ -1,16 +1,16 @@
 // A sheet as it comes in chunks: the first line, then all others. It is read through a buffer, so that any number of lines takes the same room.
+use crate::buffer::flush;
 use crate::first_line;
+use crate::joined::plan_of;
+use crate::one_line::Season;
+use crate::records::Work;
 use libc::STDIN_FILENO;
 use limits::WaitTable;
-use season_lines::Season;
-use season_lines::Work;
-use season_lines::flush;
-use season_lines::plan_of;
 use separated::Scan;
 ghost use Prim.Native.Nat.{_<_, _≤_};
 ghost use lib.ListN.{length};
 ghost use mathlib.Core.Path.{_≡_};
-ghost use Rattle.series.specs.UntilQuiet.{line};
+ghost use Rattle.season.specs.UntilQuiet.{line};
 ghost use Rattle.season.specs.Chunks as sheet;
 
 // What was taken of a chunk: the record is answered, if it ended.
@@ -35,7 +35,7 @@ fn taken(
         answered: w.answered,
     };
     if scan.done {
-        return season_lines::answer(tables, waits, texts, columns, kept, ends, s, now, out);
+        return crate::records::answer(tables, waits, texts, columns, kept, ends, s, now, out);
     }
     now
 }
@@ -133,7 +133,7 @@ fn begin(
         n: chunk.len(),
         at: t.at,
         season: season,
-        work: season_lines::begin(scan.lines, o, 0),
+        work: crate::records::begin(scan.lines, o, 0),
     }
 }
 

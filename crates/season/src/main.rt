@@ -2,14 +2,21 @@
 // actions are confirmed. Each line is a series of calls of its own, and comes back with the values of all data items, the actions that were
 // reached, and how it ended. The answer goes to standard output, what is told beside it to standard error, and to file descriptor 4 why the
 // status is not 0: `g` if the guideline is refused, `r` if something of the sheet is.
+mod buffer;
 mod chunks;
+mod fields;
 mod first_line;
+mod joined;
+mod one_line;
+mod one_value;
+mod records;
+mod until_quiet;
 
+use crate::joined::Cells;
 use limits::WaitTable;
 use limits::Waits;
 use load::Reply;
 use season_answer::Size;
-use season_lines::Cells;
 
 // The guideline.
 const GUIDELINE: i32 = 3;
@@ -23,7 +30,7 @@ fn confirms() -> bool {
 // What load left, as one table of cells.
 fn all_of(parts: &[u32], plan: &[u32], waits: WaitTable, texts: &[u8], state: &[u32]) {
     let mut tables = [0u32; Cells::ALL];
-    season_lines::join(parts, plan, state, &mut tables);
+    crate::joined::join(parts, plan, state, &mut tables);
     on_sheet(&tables, waits, texts);
 }
 

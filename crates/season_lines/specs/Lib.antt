@@ -1,4 +1,0 @@
-pub mod Lines
-pub mod LinesLaws
-pub mod OneLine
-pub mod OneLineLaws

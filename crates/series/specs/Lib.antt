@@ -1,4 +1,0 @@
-pub mod Series
-pub mod SeriesLaws
-pub mod UntilQuiet
-pub mod UntilQuietLaws
