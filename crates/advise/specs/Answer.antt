@@ -9,8 +9,8 @@ use Rattle.commands.specs.Commands.{commandOf}
 use Rattle.commands.specs.declared.Command.{Command}
 use Rattle.commands.specs.declared.Command.the-variants.{Nothing, Give, Run, RunFor, Confirm, Trigger, Time, Later, Earlier, Tree, Asked, Rows, Why, Help, Quit, Unclear}
 use Rattle.typed_lines.specs.declared.lines.Held.{Held}
-use Rattle.told_calls.specs.Told.{laterOf, earlierOf, TimeSet, TaskConfirmed, TriggerSent, ValueGiven}
-use Rattle.told_run.specs.Told.{RunTold}
+use Rattle.advise.specs.CallsTold.{laterOf, earlierOf, TimeSet, TaskConfirmed, TriggerSent, ValueGiven}
+use Rattle.advise.specs.RunTold.{RunTold}
 
 -- the bytes of a line from one place up to another: none, if they are not there
 abbrev pub between : List ℕ → ℕ → ℕ → List ℕ

@@ -10,8 +10,8 @@ use Rattle.commands.specs.Commands.{commandOf}
 use Rattle.commands.specs.declared.Command.{Command}
 use Rattle.commands.specs.declared.Command.the-variants.{Give, Run, RunFor, Confirm, Trigger, Time, Later, Earlier}
 use Rattle.typed_lines.specs.declared.lines.Held.{Held}
-use Rattle.told_calls.specs.Told.{laterOf, earlierOf, TimeSet, TaskConfirmed, TriggerSent, ValueGiven}
-use Rattle.told_run.specs.Told.{RunTold}
+use Rattle.advise.specs.CallsTold.{laterOf, earlierOf, TimeSet, TaskConfirmed, TriggerSent, ValueGiven}
+use Rattle.advise.specs.RunTold.{RunTold}
 use Rattle.advise.specs.Answer.{between, showsb, quitb, overb, Obeys, gives, runs, runs-for, confirms, triggers, sets, goes-on, goes-back, shows, Answers, Turned, past, too-long, answered, Talks, one-more, Talked}
 
 module _ (line : List ℕ) (from to : ℕ) where

@@ -64,19 +64,19 @@ fn obey(
 {
     match c {
         Command::Give(from, to, at) => {
-            told_calls::give(line, part(line, from, to), at, rows, texts, plan, state);
+            crate::giving::give(line, part(line, from, to), at, rows, texts, plan, state);
         }
-        Command::Run => told_run::run(rows, parts, texts, plan, waits, state, CYCLES),
-        Command::RunFor(n) => told_run::run(rows, parts, texts, plan, waits, state, n),
+        Command::Run => crate::told_run::run(rows, parts, texts, plan, waits, state, CYCLES),
+        Command::RunFor(n) => crate::told_run::run(rows, parts, texts, plan, waits, state, n),
         Command::Confirm(from, to) => {
-            told_calls::confirm(rows, texts, plan, state, part(line, from, to));
+            crate::confirms::confirm(rows, texts, plan, state, part(line, from, to));
         }
         Command::Trigger(from, to) => {
-            told_calls::trigger(rows, texts, plan, state, part(line, from, to));
+            crate::triggers::trigger(rows, texts, plan, state, part(line, from, to));
         }
-        Command::Time(n) => told_calls::set(state, n),
-        Command::Later(n) => told_calls::later(state, n),
-        Command::Earlier(n) => told_calls::earlier(state, n),
+        Command::Time(n) => crate::timing::set(state, n),
+        Command::Later(n) => crate::timing::later(state, n),
+        Command::Earlier(n) => crate::timing::earlier(state, n),
         Command::Nothing => {}
         Command::Tree => show(c, line, rows, parts, texts, plan, waits, state),
         Command::Asked => show(c, line, rows, parts, texts, plan, waits, state),

@@ -1,8 +1,20 @@
 // Runs a guideline with a person, who types a line and is told what came of it. The guideline comes on the file descriptor 3.
 mod answer;
+mod assigned;
+mod confirms;
+mod cycle;
+mod done;
+mod giving;
 mod help;
+mod kinds;
+mod past;
+mod refusals;
 mod session;
 mod shown;
+mod slips;
+mod timing;
+mod told_run;
+mod triggers;
 
 use limits::Expressions;
 use limits::Guideline;

@@ -11,5 +11,5 @@ pub use called::task;
 pub use kinds::class;
 pub use kinds::declared;
 pub use kinds::state;
-pub use season::comma;
-pub use season::is_among;
+pub use series::comma;
+pub use series::is_among;
