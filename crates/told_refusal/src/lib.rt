@@ -1,6 +1,12 @@
 // A guideline from a file descriptor, any bytes; and its refusal: the line for programs, then for people the place, its line and what is wrong.
-use remarks::locate;
-use remarks::say;
+mod leaf;
+mod locate;
+mod named;
+mod refused_name;
+mod refused_type;
+mod say;
+mod typed;
+
 use spot::seen;
 use spot::seen::Seen;
 ghost use Prim.Native.Nat.{_≤_};

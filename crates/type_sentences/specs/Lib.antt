@@ -1,4 +1,0 @@
-pub mod Settled
-pub mod SettledLaws
-pub mod Leaves
-pub mod LeavesLaws
