@@ -5,7 +5,7 @@ use mathlib.Core.List.{List}
 use Prim.Native.Nat.{ℕ}
 use lib.ListN.{length}
 use Rattle.separated.specs.declared.records.Scan.{Scan}
-use Rattle.headings.specs.Columns.{of-field, columns-from}
+use Rattle.season_answer.specs.Columns.{of-field, columns-from}
 use Rattle.season.specs.UntilQuiet.{Line}
 use Rattle.season.specs.declared.records.Work.{Work}
 use Rattle.season.specs.Lines.{room-at, one-more, work}

@@ -10,7 +10,7 @@ use borrow.Author.Tests.{eq-eqb, ne-eqb}
 use Rattle.separated.specs.declared.records.Scan.{Scan}
 use Rattle.separated.specs.Records.{begun, finished}
 use Rattle.separated.specs.Reading.{read, Reached, reached, read-from, read-end}
-use Rattle.headings.specs.Columns.{item-count, of-field, all-may}
+use Rattle.season_answer.specs.Columns.{item-count, of-field, all-may}
 use Rattle.season_answer.specs.Fields.{heading-written}
 use Rattle.digits.specs.Appends.{Appends}
 

@@ -10,7 +10,7 @@ use Rattle.truths.specs.Part.{partOf}
 use Rattle.digits.specs.Appends.{Appends}
 use Rattle.separated.specs.declared.records.Scan.{Scan}
 use Rattle.separated.specs.Records.{fieldOf}
-use Rattle.headings.specs.Columns.{item-count}
+use Rattle.season_answer.specs.Columns.{item-count}
 use Rattle.season_answer.specs.Fields.{labels-written, blanks-written, refused-written, values-written, reached-written, ended-written}
 use Rattle.season.specs.Series.{item-of, FieldAdded}
 use Rattle.season.specs.UntilQuiet.{Line, Series}

@@ -13,7 +13,7 @@ use Rattle.separated.specs.declared.records.Scan.{Scan}
 use Rattle.separated.specs.Records.{fieldOf}
 use Rattle.season.specs.Series.{item-of, FieldAdded}
 use Rattle.season.specs.UntilQuiet.{Line, Series}
-use Rattle.headings.specs.Columns.{item-count}
+use Rattle.season_answer.specs.Columns.{item-count}
 use Rattle.digits.specs.Appends.{Appends}
 use Rattle.digits.specs.AppendsLaws.{append-then}
 use Rattle.season_answer.specs.Fields.{labels-written, blanks-written, refused-written, values-written, reached-written, ended-written}

@@ -55,12 +55,12 @@ fn is_line(scan: Scan) -> bool
 {
     if scan.began {
         if scan.fault != Fault::NONE {
-            season_reports::fault(1, scan.wrong, scan.fault);
+            crate::reports::fault(1, scan.wrong, scan.fault);
             return false;
         }
         return true;
     }
-    season_reports::no_heading();
+    crate::reports::no_heading();
     false
 }
 
@@ -76,10 +76,10 @@ pub fn is_well(
     ensures { λ r. ⌜ (r ≡ well-line scan (now (plan .entry)) (now (texts .entry)) (now (kept .entry)) (now (ends .entry)) (now (columns .entry))) × (now (columns .exit) ≡ columns-read scan (now (plan .entry)) (now (texts .entry)) (now (kept .entry)) (now (ends .entry)) (now (columns .entry))) ⌝ }
 {
     if is_line(scan) {
-        if headings::read(plan, texts, kept, ends, scan.fields, columns) {
+        if season_answer::read_columns(plan, texts, kept, ends, scan.fields, columns) {
             return true;
         }
-        season_reports::refused();
+        crate::reports::refused();
         return false;
     }
     false

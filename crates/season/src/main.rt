@@ -10,6 +10,7 @@ mod joined;
 mod one_line;
 mod one_value;
 mod records;
+mod reports;
 mod until_quiet;
 
 use crate::joined::Cells;
@@ -43,8 +44,8 @@ fn room() -> [u8; Size::BUFFER] {
 fn on_sheet(tables: &[u32], waits: WaitTable, texts: &[u8]) {
     let mut chunk = io::large_buffer();
     let mut kept = [0u8; Size::KEPT];
-    let mut ends = [0usize; headings::Column::LIMIT];
-    let mut columns = [0u32; headings::Column::LIMIT];
+    let mut ends = [0usize; season_answer::Column::LIMIT];
+    let mut columns = [0u32; season_answer::Column::LIMIT];
     let mut out = room();
     chunks::answer(
         tables,
@@ -77,7 +78,7 @@ fn open(text: &[u8]) {
         &mut state,
     ) {
         Reply::Done => all_of(&parts, &plan, waits, &texts, &state),
-        Reply::Refused(number, place) => season_reports::guideline(number, place),
+        Reply::Refused(number, place) => crate::reports::guideline(number, place),
     }
 }
 

@@ -23,7 +23,7 @@ ghost use mathlib.Core.List.{List, _++_};
 ghost use Prim.Native.Nat.{ℕ};
 ghost use lib.ListN.{length};
 ghost use Rattle.digits.specs.Appends.{Appends};
-ghost use Rattle.headings.specs.Columns.{item-count};
+ghost use Rattle.season_answer.specs.Columns.{item-count};
 ghost use Rattle.season_answer.specs.Fields as fields;
 ghost use Rattle.season.specs.UntilQuiet as calls;
 ghost use Rattle.season.specs.Lines.{unread-line};
@@ -47,7 +47,7 @@ fn tell(line: u64, i: usize, texts: &[u8], name: usize, number: u8, f: &[u8], de
     if number == Refusal::NONE {
         return;
     }
-    season_reports::value(line, i, texts, name, number, f, declared);
+    crate::reports::value(line, i, texts, name, number, f, declared);
 }
 
 // Adds the field `i`: the number of its refusal, which is told, or none.

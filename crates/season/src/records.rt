@@ -34,7 +34,7 @@ fn one_more(n: u64) -> u64
 
 fn tell_progress(answered: u64) {
     if answered % STRIDE == 0 {
-        season_reports::progress(answered);
+        crate::reports::progress(answered);
     }
 }
 
@@ -55,11 +55,11 @@ fn is_spoilt(scan: Scan, line: u64, many: usize) -> bool
     ensures { λ r. ⌜ r ≡ sheet.is-spoilt scan many ⌝ }
 {
     if scan.fault != Fault::NONE {
-        season_reports::fault(line, scan.wrong, scan.fault);
+        crate::reports::fault(line, scan.wrong, scan.fault);
         return true;
     }
     if scan.fields != many {
-        season_reports::fields(line, scan.fields, many);
+        crate::reports::fields(line, scan.fields, many);
         return true;
     }
     false

@@ -15,7 +15,7 @@ use Rattle.values.specs.declared.scalar.Scalar.the-variants.{Unknown, Truth, In
 use Rattle.values.specs.declared.value.Value.{Value}
 use Rattle.values.specs.Meaning.{meaningV}
 use Rattle.item_rows.specs.ItemValue.{item-value}
-use Rattle.headings.specs.Columns.{item-count}
+use Rattle.season_answer.specs.Columns.{item-count}
 use Rattle.separated.specs.Quotes.{between, as-written}
 use Rattle.separated.specs.Records.{fieldOf}
 

@@ -28,7 +28,7 @@ use Rattle.blocks.specs.Blocks.{cells-long}
 use Rattle.holding.specs.Holding.{Holds}
 use Rattle.item_rows.specs.ItemValue.{cells-show}
 use Rattle.item_rows.specs.ItemRow.{value-held}
-use Rattle.headings.specs.Columns.{item-count}
+use Rattle.season_answer.specs.Columns.{item-count}
 use Rattle.digits.specs.Appends.{Appends}
 use Rattle.digits.specs.AppendsLaws.{appends-as}
 use Rattle.season_answer.specs.Fields.{each, empty-scalar, empty-text, no-bytes, EmptyText, empty-written, field-written, nothing-written, value-field, if-value, item-written, values-written}

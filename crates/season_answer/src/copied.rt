@@ -1,8 +1,8 @@
 // The fields that label a line: they are copied.
+use crate::found::Column;
 use crate::room::field as put_field;
 use crate::room::nothing;
 use blocks::cell;
-use headings::Column;
 use separated::field;
 ghost use Rattle.digits.specs.Appends.{Appends};
 ghost use Rattle.season_answer.specs.Fields.{label-written, labels-written, no-label-written, no-labels-written};

@@ -1,14 +1,14 @@
 // The first line of the answer.
 use crate::called::name;
 use crate::copied::labels;
+use crate::found::count;
 use crate::room::field;
 use crate::room::first;
 use crate::room::last;
-use headings::count;
 use state::Plan;
 use state::cell;
 ghost use Rattle.parts.specs.Texts.{textAt};
-ghost use Rattle.headings.specs.Columns.{item-count};
+ghost use Rattle.season_answer.specs.Columns.{item-count};
 ghost use Rattle.digits.specs.Appends.{Appends};
 ghost use Rattle.season_answer.specs.Fields.{field-written, names-written, heading-written};
 

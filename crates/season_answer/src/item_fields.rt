@@ -1,8 +1,8 @@
 // The values of the data items, in the order of the guideline. What has no value is an empty field; an empty text stands between quotes.
+use crate::found::count;
 use crate::room::empty_text;
 use crate::room::first;
 use crate::room::nothing;
-use headings::count;
 use values::Scalar;
 use values::Value;
 ghost use mathlib.Core.Path.{_≡_};
@@ -10,7 +10,7 @@ ghost use Prim.Native.Nat.{_≤_, _<_};
 ghost use lib.ListN.{length};
 ghost use Rattle.paper_guideline.specs.Line.{value-written};
 ghost use Rattle.values.specs.Meaning.{meaningV};
-ghost use Rattle.headings.specs.Columns.{item-count};
+ghost use Rattle.season_answer.specs.Columns.{item-count};
 ghost use Rattle.digits.specs.Appends.{Appends};
 ghost use Rattle.season_answer.specs.Fields.{no-bytes, EmptyText, value-field, item-written, values-written, blanks-written};
 

@@ -1,5 +1,5 @@
 -- `is_well`: by the tests on the line and on its columns, which are read only of a record.
-use Rattle.headings.specs.Columns.{of-field, all-may, columns-from}
+use Rattle.season_answer.specs.Columns.{of-field, all-may, columns-from}
 use Rattle.season.specs.ChunksLaws.{were-read, were-left}
 use Rattle.season.specs.FirstLine.{both, no-line}
 use borrow.Author.Needs.{needs}

@@ -4,7 +4,7 @@ use Prim.Native.Nat.{ℕ, _-_}
 use mathlib.Core.Path.{_≡_, sym, ap}
 use native.Mathlib.Omega.{arith}
 use lib.ListN.{length}
-use Rattle.headings.specs.Columns.{item-count}
+use Rattle.season_answer.specs.Columns.{item-count}
 use Rattle.parts.specs.Texts.{textAt}
 use Rattle.digits.specs.AppendsLaws.{appends-as}
 use Rattle.season_answer.specs.Fields.{field-written, name-written, names-written}

@@ -5,7 +5,7 @@ use mathlib.Core.Path.{_≡_, sym, ap}
 use mathlib.Core.List.{List}
 use native.Mathlib.Omega.{arith}
 use lib.ListN.{length}
-use Rattle.headings.specs.Columns.{item-count}
+use Rattle.season_answer.specs.Columns.{item-count}
 use Rattle.digits.specs.AppendsLaws.{appends-as}
 use Rattle.season_answer.specs.Fields.{nothing-written, blanks-written}
 use Rattle.season_answer.specs.FieldsLaws.{Turn, turn-none, turn-more, turn-all}

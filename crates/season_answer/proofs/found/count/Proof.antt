@@ -4,8 +4,8 @@ use native.Mathlib.Omega.{arith}
 use lib.ListN.{getD}
 use borrow.Author.Tests.{lt-ltb, le-ltb}
 use borrow.Author.Needs.{needs}
-use Rattle.headings.proofs.found.count.Statement.{statement}
-use Rattle.headings.proofs.found.count.Tie as tie
+use Rattle.season_answer.proofs.found.count.Statement.{statement}
+use Rattle.season_answer.proofs.found.count.Tie as tie
 
 returns : tie.Need-returns
 returns c = (simp (lt-ltb (getD (c .before .before .before .args .plan .now) (1 + 0) 0) 64 (omega arith)) (c .before .cell .ensures), omega arith)

@@ -11,7 +11,7 @@ use borrow.Author.Tests.{lt-ltb, le-ltb, eq-eqb, ne-eqb}
 use Rattle.paper_expressions.specs.Bytes.{fold}
 use Rattle.paper_expressions.specs.Laws.Search.{alikeb}
 use Rattle.parts.specs.Texts.{cells, textAt}
-use Rattle.headings.specs.Columns.{first-from, is-label, by-number, first-with, may-stand, columns-from, all-may}
+use Rattle.season_answer.specs.Columns.{first-from, is-label, by-number, first-with, may-stand, columns-from, all-may}
 
 -- ---- a name
 

@@ -3,10 +3,10 @@ use Prim.Native.Nat.{ℕ}
 use mathlib.Core.Path.{ap, _∙_}
 use mathlib.Core.List.{List}
 use lib.ListN.{set}
-use Rattle.headings.specs.Columns.{stands-for, may-stand}
+use Rattle.season_answer.specs.Columns.{stands-for, may-stand}
 use borrow.Author.Needs.{needs}
-use Rattle.headings.proofs.places.read_one.Statement.{statement}
-use Rattle.headings.proofs.places.read_one.Tie as tie
+use Rattle.season_answer.proofs.places.read_one.Statement.{statement}
+use Rattle.season_answer.proofs.places.read_one.Tie as tie
 
 returns : tie.Need-returns
 returns c =

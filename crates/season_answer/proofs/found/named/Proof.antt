@@ -5,10 +5,10 @@ use mathlib.Core.Path.{_≡_, sym, ap, _∙_}
 use native.Mathlib.Omega.{arith}
 use Rattle.paper_expressions.specs.Laws.Search.{alikeb}
 use Rattle.parts.specs.Texts.{textAt}
-use Rattle.headings.specs.Columns.{first-from, has-name, item-count}
-use Rattle.headings.specs.ColumnsLaws.{first-past, first-here, first-later, none-off}
-use Rattle.headings.proofs.found.named.Statement.{statement}
-use Rattle.headings.proofs.found.named.Tie as tie
+use Rattle.season_answer.specs.Columns.{first-from, has-name, item-count}
+use Rattle.season_answer.specs.ColumnsLaws.{first-past, first-here, first-later, none-off}
+use Rattle.season_answer.proofs.found.named.Statement.{statement}
+use Rattle.season_answer.proofs.found.named.Tie as tie
 
 abbrev Inv-loop : tie.InvT-loop
 Inv-loop plan texts name n d₀ d = (n ≡ item-count plan) × (n ≤ 64) × (d ≤ n) × (first-from (has-name plan texts name) d (n - d) ≡ first-from (has-name plan texts name) 0 n)

@@ -1,8 +1,8 @@
 -- `is_label`: by its first byte.
-use Rattle.headings.specs.ColumnsLaws.{no-label, label-by}
+use Rattle.season_answer.specs.ColumnsLaws.{no-label, label-by}
 use borrow.Author.Needs.{needs}
-use Rattle.headings.proofs.found.is_label.Statement.{statement}
-use Rattle.headings.proofs.found.is_label.Tie as tie
+use Rattle.season_answer.proofs.found.is_label.Statement.{statement}
+use Rattle.season_answer.proofs.found.is_label.Tie as tie
 
 returns : tie.Need-returns
 returns c = no-label (c .before .args .name .now) (c .if1 .taken)

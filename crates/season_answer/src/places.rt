@@ -8,7 +8,7 @@ use separated::field;
 ghost use mathlib.Core.Path.{_≡_};
 ghost use mathlib.Core.Bool.{_&&_};
 ghost use lib.ListN.{set};
-ghost use Rattle.headings.specs.Columns as places;
+ghost use Rattle.season_answer.specs.Columns as places;
 
 fn head(i: usize, name: &[u8]) {
     aside::text(b"column ");

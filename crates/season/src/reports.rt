@@ -1,7 +1,7 @@
 // What is told beside the answer to a sheet, on standard error, and why the status is not 0.
 use field_values::Refusal;
-use headings::Column;
 use parts::Declared;
+use season_answer::Column;
 use separated::Fault;
 
 // Why the status is not 0 is written here.

@@ -9,7 +9,7 @@ ghost use mathlib.Core.Path.{_≡_};
 ghost use Prim.Native.Nat.{_≤_};
 ghost use Rattle.paper_expressions.specs.Laws.Search.{alikeb};
 ghost use Rattle.parts.specs.Texts.{textAt};
-ghost use Rattle.headings.specs.Columns as columns;
+ghost use Rattle.season_answer.specs.Columns as columns;
 
 pub struct Column {}
 

@@ -1,10 +1,10 @@
 -- `is_well`: by what it stands for.
 use native.Mathlib.Omega.{arith}
 use borrow.Author.Tests.{eq-eqb, ne-eqb}
-use Rattle.headings.specs.ColumnsLaws.{stands-twice, stands-once}
+use Rattle.season_answer.specs.ColumnsLaws.{stands-twice, stands-once}
 use borrow.Author.Needs.{needs}
-use Rattle.headings.proofs.places.is_well.Statement.{statement}
-use Rattle.headings.proofs.places.is_well.Tie as tie
+use Rattle.season_answer.proofs.places.is_well.Statement.{statement}
+use Rattle.season_answer.proofs.places.is_well.Tie as tie
 
 returns : tie.Need-returns
 returns c = simp (eq-eqb _ _ (c .if1 .taken))

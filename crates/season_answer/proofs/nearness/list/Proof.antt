@@ -1,8 +1,8 @@
 -- `list` is safe and ends: the measure is what is left.
 use borrow.Author.Needs.{needs}
 use Prim.Native.Nat.{_-_}
-use Rattle.headings.proofs.nearness.list.Statement.{statement}
-use Rattle.headings.proofs.nearness.list.Tie as tie
+use Rattle.season_answer.proofs.nearness.list.Statement.{statement}
+use Rattle.season_answer.proofs.nearness.list.Tie as tie
 
 abbrev Inv-loop : tie.InvT-loop
 Inv-loop plan texts n d₀ d = Unit {0}

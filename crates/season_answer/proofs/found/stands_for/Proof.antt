@@ -1,9 +1,9 @@
 -- `stands_for`: by the tests whether an item has the name, and whether it is that of a label.
 use native.Mathlib.Omega.{arith}
-use Rattle.headings.specs.ColumnsLaws.{stands-item, stands-label, stands-nothing}
+use Rattle.season_answer.specs.ColumnsLaws.{stands-item, stands-label, stands-nothing}
 use borrow.Author.Needs.{needs}
-use Rattle.headings.proofs.found.stands_for.Statement.{statement}
-use Rattle.headings.proofs.found.stands_for.Tie as tie
+use Rattle.season_answer.proofs.found.stands_for.Statement.{statement}
+use Rattle.season_answer.proofs.found.stands_for.Tie as tie
 
 returns : tie.Need-returns
 returns c = stands-item (c .before .before .before .before .before .before .args .name .now) (c .before .count .ensures .0) (c .before .before .named .ensures .0) (omega arith)

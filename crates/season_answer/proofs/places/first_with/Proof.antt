@@ -6,10 +6,10 @@ use native.Mathlib.Omega.{arith}
 use lib.Dec.{eqb}
 use lib.ListN.{getD}
 use borrow.Author.Tests.{eq-eqb, ne-eqb}
-use Rattle.headings.specs.Columns.{first-from}
-use Rattle.headings.specs.ColumnsLaws.{first-past, first-here, first-later, none-off}
-use Rattle.headings.proofs.places.first_with.Statement.{statement}
-use Rattle.headings.proofs.places.first_with.Tie as tie
+use Rattle.season_answer.specs.Columns.{first-from}
+use Rattle.season_answer.specs.ColumnsLaws.{first-past, first-here, first-later, none-off}
+use Rattle.season_answer.proofs.places.first_with.Statement.{statement}
+use Rattle.season_answer.proofs.places.first_with.Tie as tie
 
 abbrev Inv-loop : tie.InvT-loop
 Inv-loop columns i c j₀ j = (j ≤ i) × (first-from (λ (k : ℕ). eqb (getD columns k 0) c) j (i - j) ≡ first-from (λ (k : ℕ). eqb (getD columns k 0) c) 0 i)

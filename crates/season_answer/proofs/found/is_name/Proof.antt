@@ -6,9 +6,9 @@ use native.Mathlib.Omega.{arith}
 use lib.ListN.{length, drop}
 use Rattle.paper_expressions.specs.Laws.Search.{alikeb}
 use Rattle.parts.specs.Texts.{cells}
-use Rattle.headings.specs.ColumnsLaws.{name-long, name-from, name-end, name-other, name-same}
-use Rattle.headings.proofs.found.is_name.Statement.{statement}
-use Rattle.headings.proofs.found.is_name.Tie as tie
+use Rattle.season_answer.specs.ColumnsLaws.{name-long, name-from, name-end, name-other, name-same}
+use Rattle.season_answer.proofs.found.is_name.Statement.{statement}
+use Rattle.season_answer.proofs.found.is_name.Tie as tie
 
 abbrev Inv-loop : tie.InvT-loop
 Inv-loop texts h name i₀ i = alikeb (cells texts (h / 64 + i) (length name - i)) (drop i name) ≡ alikeb (cells texts (h / 64) (length name)) name

@@ -5,10 +5,10 @@ use mathlib.Core.Path.{_≡_, sym, ap, _∙_}
 use mathlib.Core.Bool.{Bool, true, _&&_}
 use native.Mathlib.Omega.{arith}
 use lib.ListN.{length}
-use Rattle.headings.specs.Columns.{columns-from, all-may, of-field}
-use Rattle.headings.specs.ColumnsLaws.{columns-end, columns-next, may-next, and-true, none-off}
-use Rattle.headings.proofs.places.read.Statement.{statement}
-use Rattle.headings.proofs.places.read.Tie as tie
+use Rattle.season_answer.specs.Columns.{columns-from, all-may, of-field}
+use Rattle.season_answer.specs.ColumnsLaws.{columns-end, columns-next, may-next, and-true, none-off}
+use Rattle.season_answer.proofs.places.read.Statement.{statement}
+use Rattle.season_answer.proofs.places.read.Tie as tie
 
 abbrev Inv-loop : tie.InvT-loop
 Inv-loop plan texts kept ends fields columns₀ well₀ i₀ columns well i = (length columns ≡ length columns₀) × (columns-from (of-field plan texts kept ends) columns i (fields - i) ≡ columns-from (of-field plan texts kept ends) columns₀ 0 fields) × ((well && all-may (of-field plan texts kept ends) columns i (fields - i)) ≡ all-may (of-field plan texts kept ends) columns₀ 0 fields)
