@@ -34,7 +34,7 @@ fn item(texts: &[u8], plan: &[u32], state: &[u32], is_named: bool, any: bool, d:
 }
 
 fn items(parts: &[u32], texts: &[u8], plan: &[u32], state: &[u32], e: usize) -> bool {
-    let m = mentions::items(parts, texts, plan, e);
+    let m = crate::mentions::items(parts, texts, plan, e);
     let mut any = false;
     let mut d = 0usize;
     while d < DataItems::LIMIT {
@@ -73,7 +73,7 @@ fn tasks(
     e: usize,
     any: bool,
 ) {
-    let m = mentions::tasks(parts, texts, plan, e);
+    let m = crate::mentions::tasks(parts, texts, plan, e);
     let mut told = any;
     let mut t = 0usize;
     while t < Tasks::LIMIT {

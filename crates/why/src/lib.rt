@@ -1,12 +1,14 @@
 // Why a task is where it is, in words on standard output: condition by condition, decided by the functions that the engine runs by.
 // Nothing is asked of the tables: on any contents it ends and does nothing undefined.
+mod ahead;
 mod condition;
 mod dormant;
 mod leaving;
+mod mentions;
 mod running;
 
-use ahead::Move;
-use ahead::Review;
+use crate::ahead::Move;
+use crate::ahead::Review;
 use limits::Marks;
 use limits::Tasks;
 use limits::WaitTable;
@@ -152,8 +154,8 @@ fn moves(
     state: &[u32],
     t: usize,
 ) {
-    let n = ahead::next(parts, texts, plan, waits, state);
-    match ahead::ahead(n, t) {
+    let n = crate::ahead::next(parts, texts, plan, waits, state);
+    match crate::ahead::ahead(n, t) {
         Move::Initialise => initialised(rows, texts, plan, n, t),
         Move::Start => leaving::started(texts, plan, state, t),
         Move::Discard => discarded(rows, parts, texts, plan, waits, state, n, t),

@@ -1,7 +1,7 @@
 // What a task in progress waits for before it is completed: 8.6.4, and 8.6.8 of a plan.
+use crate::ahead::Move;
+use crate::ahead::Review;
 use crate::condition;
-use ahead::Move;
-use ahead::Review;
 use libc::STDOUT_FILENO;
 use limits::Marks;
 use limits::Sources;
@@ -136,7 +136,7 @@ fn component(
     }
     write::text(b"  It waits for its component ");
     worded::task(rows, texts, plan, c);
-    doing(state, ahead::ahead(n, c), c);
+    doing(state, crate::ahead::ahead(n, c), c);
 }
 
 // 8.6.8, 2, of the task `c`, if it is a component that ends the plan.

@@ -11,7 +11,7 @@ ghost use mathlib.Core.Path.{_≡_};
 ghost use Prim.Native.Nat.{_+_, _*_, _-_};
 ghost use lib.ListN.{getD};
 ghost use Rattle.truths.specs.Part.{partOf};
-ghost use Rattle.mentions.specs.Mentions.{Named, Asks, TaskOf, TheOne, Mentioned, state-code, text-code};
+ghost use Rattle.why.specs.Mentions.{Named, Asks, TaskOf, TheOne, Mentioned, state-code, text-code};
 
 // The data item that the part `p` names, or the limit.
 fn item_at(parts: &[u32], texts: &[u8], plan: &[u32], p: usize) -> usize

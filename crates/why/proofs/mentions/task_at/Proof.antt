@@ -4,10 +4,10 @@ use Prim.Native.Nat.{ℕ, _-_}
 use lib.ListN.{getD}
 use borrow.Author.Tests.{not-true, not-false}
 use Rattle.truths.specs.Part.{partOf}
-use Rattle.mentions.specs.Mentions.{asks-first, asks-no-state, asks-no-text, asks-item, asks-task}
+use Rattle.why.specs.Mentions.{asks-first, asks-no-state, asks-no-text, asks-item, asks-task}
 use borrow.Author.Needs.{needs}
-use Rattle.mentions.proofs.task_at.Statement.{statement}
-use Rattle.mentions.proofs.task_at.Tie as tie
+use Rattle.why.proofs.mentions.task_at.Statement.{statement}
+use Rattle.why.proofs.mentions.task_at.Tie as tie
 
 returns : tie.Need-returns
 returns c =

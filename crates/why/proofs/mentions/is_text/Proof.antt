@@ -1,10 +1,10 @@
 -- `is_text`: each arm is a case of the definition.
 use mathlib.Core.Path.{sym, ap}
 use borrow.Author.Tests.{ne-eqb}
-use Rattle.mentions.specs.Mentions.{text-code}
+use Rattle.why.specs.Mentions.{text-code}
 use borrow.Author.Needs.{needs}
-use Rattle.mentions.proofs.is_text.Statement.{statement}
-use Rattle.mentions.proofs.is_text.Tie as tie
+use Rattle.why.proofs.mentions.is_text.Statement.{statement}
+use Rattle.why.proofs.mentions.is_text.Tie as tie
 
 returns : tie.Need-returns
 returns c = ap text-code (sym (c .match .keys1))

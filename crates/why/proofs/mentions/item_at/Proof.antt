@@ -3,10 +3,10 @@ use mathlib.Core.Path.{_≡_, refl, sym, ap, subst, _∙_}
 use Prim.Native.Nat.{ℕ}
 use lib.ListN.{getD}
 use Rattle.truths.specs.Part.{partOf}
-use Rattle.mentions.specs.Mentions.{item-not, item-far, item-none, item-here}
+use Rattle.why.specs.Mentions.{item-not, item-far, item-none, item-here}
 use borrow.Author.Needs.{needs}
-use Rattle.mentions.proofs.item_at.Statement.{statement}
-use Rattle.mentions.proofs.item_at.Tie as tie
+use Rattle.why.proofs.mentions.item_at.Statement.{statement}
+use Rattle.why.proofs.mentions.item_at.Tie as tie
 
 returns : tie.Need-returns
 returns c =

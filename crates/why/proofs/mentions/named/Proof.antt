@@ -3,10 +3,10 @@ use mathlib.Core.Path.{_≡_, refl, sym, ap, subst, _∙_}
 use Prim.Native.Nat.{ℕ, _+_, _*_, _-_}
 use lib.ListN.{getD}
 use Rattle.truths.specs.Part.{partOf}
-use Rattle.mentions.specs.Mentions.{task-far, task-none, task-here}
+use Rattle.why.specs.Mentions.{task-far, task-none, task-here}
 use borrow.Author.Needs.{needs}
-use Rattle.mentions.proofs.named.Statement.{statement}
-use Rattle.mentions.proofs.named.Tie as tie
+use Rattle.why.proofs.mentions.named.Statement.{statement}
+use Rattle.why.proofs.mentions.named.Tie as tie
 
 returns : tie.Need-returns
 returns c =

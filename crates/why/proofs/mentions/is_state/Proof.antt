@@ -1,10 +1,10 @@
 -- `is_state`: each arm is a case of the definition.
 use mathlib.Core.Path.{sym, ap}
 use borrow.Author.Tests.{ne-eqb}
-use Rattle.mentions.specs.Mentions.{state-code}
+use Rattle.why.specs.Mentions.{state-code}
 use borrow.Author.Needs.{needs}
-use Rattle.mentions.proofs.is_state.Statement.{statement}
-use Rattle.mentions.proofs.is_state.Tie as tie
+use Rattle.why.proofs.mentions.is_state.Statement.{statement}
+use Rattle.why.proofs.mentions.is_state.Tie as tie
 
 returns : tie.Need-returns
 returns c = ap state-code (sym (c .match .keys1))

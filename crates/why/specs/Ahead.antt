@@ -8,9 +8,9 @@ use Rattle.truths.specs.Part.{shownBy}
 use Rattle.truths.specs.Truth.{AllAllowed, AllEnded}
 use Rattle.passes.specs.Passes.{Starts, Initialises}
 use Rattle.passes.specs.Ends.{Terminated, Discarded, Completed}
-use Rattle.ahead.specs.declared.Review.{Review}
-use Rattle.ahead.specs.declared.Move.{Move}
-use Rattle.ahead.specs.declared.Move.the-variants.{Initialise, Start, Discard, Complete, Nothing}
+use Rattle.why.specs.declared.ahead.Review.{Review}
+use Rattle.why.specs.declared.ahead.Move.{Move}
+use Rattle.why.specs.declared.ahead.Move.the-variants.{Initialise, Start, Discard, Complete, Nothing}
 
 -- 8.5.1: "If InitialiseConditions(T) is true then perform Initialise(T), else if StartConditions(T) .."
 abbrev pub moveF : Bool → Bool → Bool → Bool → Move

@@ -4,7 +4,7 @@ use limits::WaitTable;
 use state::Plan;
 ghost use mathlib.Core.Path.{_≡_};
 ghost use Rattle.waits.specs.Twins.{marked};
-ghost use Rattle.ahead.specs.Ahead.{moveF, Ahead};
+ghost use Rattle.why.specs.Ahead.{moveF, Ahead};
 
 // Where the engine time stands in the state table.
 const TIME: usize = 2;

@@ -1,7 +1,7 @@
 -- `ahead`: the marks of the task decide.
 use borrow.Author.Needs.{needs}
-use Rattle.ahead.proofs.ahead.Statement.{statement}
-use Rattle.ahead.proofs.ahead.Tie as tie
+use Rattle.why.proofs.ahead.ahead.Statement.{statement}
+use Rattle.why.proofs.ahead.ahead.Tie as tie
 
 returns : tie.Need-returns
 returns c = cc

@@ -3,8 +3,8 @@ use mathlib.Core.Path.{_≡_, refl, sym, ap, subst, _∙_}
 use Prim.Native.Nat.{ℕ}
 use Rattle.passes.specs.Passes.{Starts}
 use borrow.Author.Needs.{needs}
-use Rattle.ahead.proofs.next.Statement.{statement}
-use Rattle.ahead.proofs.next.Tie as tie
+use Rattle.why.proofs.ahead.next.Statement.{statement}
+use Rattle.why.proofs.ahead.next.Tie as tie
 
 returns : tie.Need-returns
 returns c =
