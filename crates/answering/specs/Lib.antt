@@ -1,3 +1,5 @@
+pub mod Decided
+pub mod DecidedLaws
 pub mod Reply
 pub mod Stages
 pub mod Laws

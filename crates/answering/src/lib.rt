@@ -1,7 +1,11 @@
 // Load's answer: a guideline's bytes to its rows, parts and texts, or number and place of its refusal, by all stages.
+mod verdict;
+
 use limits::Refusal;
 use reading::Reading;
 use row_tests::Found;
+pub use verdict::Verdict;
+pub use verdict::decide;
 ghost use Rattle.parts.specs.Part.{table};
 ghost use Rattle.answering.specs.Reply.{Answered, Named, Typed};
 

@@ -1,10 +1,10 @@
 // Examines one guideline: reads any bytes from standard input and writes `refused N P` or `loads`; then, for people, of a refusal the line and what is wrong, and of a guideline that loads the names that are read as text.
+use answering::Verdict;
 use bare_names::told;
 use libc::STDIN_FILENO;
 use limits::Guideline;
 use sentences::write;
 use spot::seen::Seen;
-use verdict::Verdict;
 ghost use Prim.Native.Nat.{_≤_};
 ghost use lib.ListN.{length};
 
@@ -13,7 +13,7 @@ fn examine(text: &[u8], s: Seen) {
         told_refusal::too_long(text, s);
         return;
     }
-    match verdict::decide(text) {
+    match answering::decide(text) {
         Verdict::Loads => {
             write::text(b"loads\n");
             told::list(text);

@@ -1,7 +1,7 @@
 // Examines the texts of a batch: writes for each the line that examine writes first. For comparison with the second program.
+use answering::Verdict;
 use batch::Next;
 use libc::STDOUT_FILENO;
-use verdict::Verdict;
 
 fn write_loads() {
     io::write_all(STDOUT_FILENO, b"loads\n");
@@ -9,7 +9,7 @@ fn write_loads() {
 
 // One text.
 fn answer(text: &[u8]) {
-    match verdict::decide(text) {
+    match answering::decide(text) {
         Verdict::Loads => write_loads(),
         Verdict::Refused(number, place) => batch::write_refused(number, place),
     }

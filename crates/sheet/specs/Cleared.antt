@@ -2,8 +2,8 @@
 use Prim.Native.Nat.{ℕ}
 use mathlib.Core.Path.{_≡_}
 use mathlib.Core.List.{List}
-use Rattle.output.specs.Steps.{Room}
-use Rattle.output.specs.declared.State.{State}
+use Rattle.sheet.specs.Steps.{Room}
+use Rattle.sheet.specs.declared.output.State.{State}
 
 -- the state is the same, but that the buffer has room for one line more
 pub record Cleared (out : List ℕ) (s s′ : State) : Type 0 where

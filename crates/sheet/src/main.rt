@@ -1,9 +1,11 @@
 // The small program: reads one expression a line and writes, behind a header, for each line its number, type and value, or its refusal.
 // It only moves bytes: it reads a chunk as it comes, has its lines answered, and writes the answers before it reads on.
+mod output;
+
 ghost use Prim.Native.Nat.{_≤_, _<_};
 ghost use lib.ListN.{length};
 ghost use Rattle.lines.specs.Kept.{kept-limit};
-ghost use Rattle.output.specs.Steps.{line-limit};
+ghost use Rattle.sheet.specs.Steps.{line-limit};
 ghost use Rattle.sheet.specs.Cleared.{Cleared};
 use libc::STDIN_FILENO;
 use libc::STDOUT_FILENO;

@@ -3,7 +3,7 @@ use Prim.Native.Nat.{_≤_}
 use mathlib.Core.Path.{_≡_}
 use lib.ListN.{length}
 use borrow.Author.Needs.{needs}
-use Rattle.output.specs.Steps.{line-limit}
+use Rattle.sheet.specs.Steps.{line-limit}
 use Rattle.sheet.proofs.all.Statement.{statement}
 use Rattle.sheet.proofs.all.Tie as tie
 

@@ -4,8 +4,8 @@ use lib.ListN.{length-take}
 use lib.Seq.{take-all}
 use Rattle.digits.specs.AppendsLaws.{appends-as}
 use borrow.Author.Needs.{needs}
-use Rattle.output.proofs.first.Statement.{statement}
-use Rattle.output.proofs.first.Tie as tie
+use Rattle.sheet.proofs.output.first.Statement.{statement}
+use Rattle.sheet.proofs.output.first.Tie as tie
 
 returns : tie.Need-returns
 returns c = let a = c .before .before .before .before .before .before .before .args in appends-as (take-all (a .n) (a .text .now) (omega arith)) (c .before .before .word .ensures)

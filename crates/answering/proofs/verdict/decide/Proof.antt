@@ -1,10 +1,10 @@
 -- `decide`: by load's answer.
 use Prim.Native.Nat.{ℕ}
 use lib.ListN.{length-replicate}
-use Rattle.verdict.specs.DecidedLaws.{loaded, turned}
+use Rattle.answering.specs.DecidedLaws.{loaded, turned}
 use borrow.Author.Needs.{needs}
-use Rattle.verdict.proofs.decide.Statement.{statement}
-use Rattle.verdict.proofs.decide.Tie as tie
+use Rattle.answering.proofs.verdict.decide.Statement.{statement}
+use Rattle.answering.proofs.verdict.decide.Tie as tie
 
 returns : tie.Need-returns
 returns c = loaded (c .before .before .before .before .before .judge .ensures) (length-replicate {A = ℕ} 10920 0) (length-replicate {A = ℕ} 4096 0) (length-replicate {A = ℕ} 16384 0) (c .enum-told .given .1)

@@ -1,11 +1,11 @@
 -- `output::answer` meets its contract: of fewer than n bytes the first n are all.
 use native.Mathlib.Omega.{arith}
 use lib.ListN.{length-take}
-use Rattle.output.specs.StepsLaws.{reply-as}
+use Rattle.sheet.specs.StepsLaws.{reply-as}
 use lib.Seq.{take-all}
 use borrow.Author.Needs.{needs}
-use Rattle.output.proofs.answer.Statement.{statement}
-use Rattle.output.proofs.answer.Tie as tie
+use Rattle.sheet.proofs.output.answer.Statement.{statement}
+use Rattle.sheet.proofs.output.answer.Tie as tie
 
 returns : tie.Need-returns
 returns c = let a = c .before .before .before .before .before .before .before .args in reply-as (take-all (a .n) (a .kept .now) (omega arith)) (c .before .before .answer .ensures)

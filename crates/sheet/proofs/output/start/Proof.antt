@@ -1,10 +1,10 @@
 -- `output::start` meets its contract: the header is appended.
 use native.Mathlib.Omega.{arith}
 use mathlib.Core.Path.{refl}
-use Rattle.output.specs.StepsLaws.{put}
+use Rattle.sheet.specs.StepsLaws.{put}
 use borrow.Author.Needs.{needs}
-use Rattle.output.proofs.start.Statement.{statement}
-use Rattle.output.proofs.start.Tie as tie
+use Rattle.sheet.proofs.output.start.Statement.{statement}
+use Rattle.sheet.proofs.output.start.Tie as tie
 
 returns : tie.Need-returns
 returns c = record { at = refl; kept = refl; first = refl; put = put (c .before .before .word .ensures) (let r = c .before .before .before .before .before .before .pre in omega arith) }

@@ -4,7 +4,7 @@ ghost use mathlib.Core.Path.{_≡_};
 ghost use lib.ListN.{length, take};
 ghost use Rattle.digits.specs.Appends.{Appends};
 ghost use Rattle.line_answer.specs.Reply.{Reply};
-ghost use Rattle.output.specs.Steps.{line-limit, following, Room, Starts, LineWritten, Steps, Ends};
+ghost use Rattle.sheet.specs.Steps.{line-limit, following, Room, Starts, LineWritten, Steps, Ends};
 
 pub struct Written;
 

@@ -1,9 +1,9 @@
 -- `output::next` meets its contract: one more, as far as there are numbers.
 use borrow.Author.Tests.{lt-ltb, le-ltb}
 use borrow.Author.Needs.{needs}
-use Rattle.output.specs.Steps.{number-limit}
-use Rattle.output.proofs.next.Statement.{statement}
-use Rattle.output.proofs.next.Tie as tie
+use Rattle.sheet.specs.Steps.{number-limit}
+use Rattle.sheet.proofs.output.next.Statement.{statement}
+use Rattle.sheet.proofs.output.next.Tie as tie
 
 returns : tie.Need-returns
 returns c = rw (lt-ltb (c .before .args .number) number-limit (c .if1 .taken))

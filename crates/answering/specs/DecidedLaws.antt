@@ -7,16 +7,16 @@ use lib.ListN.{length}
 use Rattle.paper_guideline.specs.Limits.{guideline-limit, part-limit}
 use Rattle.parts.specs.Part.{Table}
 use Rattle.limits.specs.Limits.{row-cells}
 use Rattle.answering.specs.declared.Answer.{Answer}
 use Rattle.answering.specs.declared.Answer.the-variants as Answer
 use Rattle.answering.specs.Reply.{Reply, Answered}
 use Rattle.answering.specs.Stages.{never-both, swapped}
 use Rattle.stages.specs.Judged.{Short}
 use Rattle.reading.specs.Laws.{same-refusal}
 use Rattle.paper_guideline.specs.Laws.RefusalLaws.{one-answer}
-use Rattle.verdict.specs.declared.Verdict.{Verdict}
-use Rattle.verdict.specs.declared.Verdict.the-variants.{Loads, Refused}
-use Rattle.verdict.specs.Decided.{Decides}
+use Rattle.answering.specs.declared.verdict.Verdict.{Verdict}
+use Rattle.answering.specs.declared.verdict.Verdict.the-variants.{Loads, Refused}
+use Rattle.answering.specs.Decided.{Decides}
 
 -- ---- tables with all cells
 

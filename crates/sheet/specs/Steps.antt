@@ -11,7 +11,7 @@ use Rattle.lines.specs.Kept.{Takes}
 use Rattle.lines.specs.Run.{header, line-written, Run}
 use Rattle.lines.specs.declared.Taken.{Taken}
 use Rattle.written.specs.Limit.{answer-limit}
-use Rattle.output.specs.declared.State.{State}
+use Rattle.sheet.specs.declared.output.State.{State}
 
 -- no line takes more bytes: twenty digits, a blank, the answer, a newline
 abbrev pub line-limit : ℕ

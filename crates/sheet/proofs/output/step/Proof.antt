@@ -1,9 +1,9 @@
 -- `output::step` meets its contract: one law for each way that `take` goes.
 use native.Mathlib.Omega.{arith}
-use Rattle.output.specs.StepsLaws.{ends, goes-on}
+use Rattle.sheet.specs.StepsLaws.{ends, goes-on}
 use borrow.Author.Needs.{needs}
-use Rattle.output.proofs.step.Statement.{statement}
-use Rattle.output.proofs.step.Tie as tie
+use Rattle.sheet.proofs.output.step.Statement.{statement}
+use Rattle.sheet.proofs.output.step.Tie as tie
 
 returns : tie.Need-returns
 returns c = ends (c .before .before .before .before .before .before .before .before .before .take .ensures) (c .before .before .before .before .before .before .if1 .taken) (c .before .before .before .write-line .ensures) (c .next .ensures)

@@ -1,9 +1,9 @@
 -- `output::last` meets its contract: nothing is left, or one line.
 use native.Mathlib.Omega.{arith}
-use Rattle.output.specs.StepsLaws.{none-left, one-left}
+use Rattle.sheet.specs.StepsLaws.{none-left, one-left}
 use borrow.Author.Needs.{needs}
-use Rattle.output.proofs.last.Statement.{statement}
-use Rattle.output.proofs.last.Tie as tie
+use Rattle.sheet.proofs.output.last.Statement.{statement}
+use Rattle.sheet.proofs.output.last.Tie as tie
 
 returns : tie.Need-returns
 returns c = let a = c .before .before .before .before .args in none-left (a .kept .now) (a .out .now) (a .s) (let r = c .before .before .before .before .pre in omega arith) (c .if1 .taken)

@@ -18,8 +18,8 @@ use Rattle.lines.specs.RunLaws.{moves-on}
 use Rattle.lines.specs.declared.Taken.{Taken}
 use Rattle.written.specs.Limit.{answer-limit}
 use Rattle.line_answer.specs.Reply.{Answered, Reply}
-use Rattle.output.specs.Steps.{line-limit, number-limit, following, Put, Room, LineWritten, Steps, Ends}
-use Rattle.output.specs.declared.State.{State}
+use Rattle.sheet.specs.Steps.{line-limit, number-limit, following, Put, Room, LineWritten, Steps, Ends}
+use Rattle.sheet.specs.declared.output.State.{State}
 
 -- ---- what stands in the buffer
 

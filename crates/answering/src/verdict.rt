@@ -1,6 +1,6 @@
 // What is decided of a whole text: it loads, or number and place of its refusal. For programs that want no tables.
-ghost use Rattle.verdict.specs.Decided.{Decides};
-use answering::Answer;
+ghost use Rattle.answering.specs.Decided.{Decides};
+use crate::Answer;
 use limits::Expressions;
 use limits::Guideline;
 use limits::Rows;
@@ -17,7 +17,7 @@ pub fn decide(text: &[u8]) -> Verdict
     let mut rows = [0u32; Rows::CELLS];
     let mut cells = [0u32; Expressions::CELLS];
     let mut bytes = [0u8; Guideline::LIMIT];
-    match answering::judge(text, &mut rows, &mut cells, &mut bytes) {
+    match crate::judge(text, &mut rows, &mut cells, &mut bytes) {
         Answer::Loads(_) => Verdict::Loads,
         Answer::Refused(number, place) => Verdict::Refused(number, place),
     }

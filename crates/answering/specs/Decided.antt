@@ -2,8 +2,8 @@
 use mathlib.Core.List.{List}
 use Prim.Native.Nat.{ℕ}
 use Rattle.paper_guideline.specs.Refusals as Refusals
-use Rattle.verdict.specs.declared.Verdict.{Verdict}
-use Rattle.verdict.specs.declared.Verdict.the-variants.{Loads, Refused}
+use Rattle.answering.specs.declared.verdict.Verdict.{Verdict}
+use Rattle.answering.specs.declared.verdict.Verdict.the-variants.{Loads, Refused}
 
 abbrev pub Decides : List ℕ → Verdict → Type 0
 Decides text Loads = Refusals.Answers ⊥ text Refusals.loads

@@ -1,10 +1,10 @@
 -- `output::write_line` meets its contract: the bytes one behind the other.
 use native.Mathlib.Omega.{arith}
 use mathlib.Core.Path.{refl}
-use Rattle.output.specs.StepsLaws.{line-is}
+use Rattle.sheet.specs.StepsLaws.{line-is}
 use borrow.Author.Needs.{needs}
-use Rattle.output.proofs.write_line.Statement.{statement}
-use Rattle.output.proofs.write_line.Tie as tie
+use Rattle.sheet.proofs.output.write_line.Statement.{statement}
+use Rattle.sheet.proofs.output.write_line.Tie as tie
 
 returns : tie.Need-returns
 returns c =
