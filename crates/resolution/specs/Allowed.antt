@@ -17,6 +17,19 @@ use Rattle.parts.specs.Codes.{code}
 use Rattle.resolution.specs.Letters.{letter-some, Outcome, is, none}
 use Rattle.resolution.specs.Resolution.{slots, entries, plain, orElse, resolveOf, exact-entry, first-entry, one-entry, too-many, too-many-first}
 
+-- the functions and prefix operators, by the tens of their numbers
+abbrev pub functionOf : ℕ → List ℕ
+functionOf f =
+    cond (eqb f 8) (bytes "I  IR  R")
+    (cond (eqb f 9) (bytes "T  BR  Bt  Br  BB  B")
+    (cond (eqb f 10) (bytes "B  B")
+    (cond (eqb f 11) (bytes "r  It  I")
+    (cond (eqb f 12) (bytes "i  Ir  R")
+    (cond (eqb f 13) (bytes "i  Ir  Rt  T")
+    (cond (eqb f 14) (bytes "Ii IIr RIt T")
+    (cond (eqb f 15) (bytes "T  B")
+    [])))))))
+
 -- by the tens of an operator's number
 abbrev pub listOf : ℕ → List ℕ
 listOf f =
@@ -27,15 +40,7 @@ listOf f =
     (cond (eqb f 5) (bytes "tT BrR B")
     (cond (eqb f 6) (bytes "Tt BRr B")
     (cond (eqb f 7) (bytes "BBBBBIIIBRRRBTTTBiiiBrrrBttt")
-    (cond (eqb f 8) (bytes "I  IR  R")
-    (cond (eqb f 9) (bytes "T  BR  Bt  Br  BB  B")
-    (cond (eqb f 10) (bytes "B  B")
-    (cond (eqb f 11) (bytes "r  It  I")
-    (cond (eqb f 12) (bytes "i  Ir  R")
-    (cond (eqb f 13) (bytes "i  Ir  Rt  T")
-    (cond (eqb f 14) (bytes "Ii IIr RIt T")
-    (cond (eqb f 15) (bytes "T  B")
-    []))))))))))))))
+    (functionOf f)))))))
 
 -- the test: these are the definitions' allowed types, in their order
 pub listed : (o : Op) → listOf (code o / 10) ≡ entries (allowed o)

@@ -5,7 +5,7 @@ ghost use mathlib.Core.List.{[], _∷_};
 ghost use Prim.Native.Nat.{_+_, _<_};
 ghost use lib.ListN.{getD, length};
 ghost use Rattle.resolution.specs.Resolution.{promotesOf, setOf, meetsOf, allMeet, firstOf, resolveOf};
-ghost use Rattle.resolution.specs.Allowed.{listOf};
+ghost use Rattle.resolution.specs.Allowed.{functionOf, listOf};
 use parts::Family;
 
 // The letters of an allowed type, and where the result stands among them.
@@ -91,7 +91,24 @@ fn resolve(list: &[u8], x: u8, y: u8, z: u8) -> u8
     first(list, x, y, z, true)
 }
 
-// Section 11: the allowed types of each operator, by the family of its number.
+// Section 11: the allowed types of each function and prefix operator, by the family of its number.
+fn apply_function(tens: usize, x: u8, y: u8, z: u8) -> u8
+    ensures { λ r. ⌜ r ≡ resolveOf (x ∷ y ∷ z ∷ []) (functionOf tens) ⌝ }
+{
+    match tens {
+        Family::NEGATE => resolve(b"I  IR  R", x, y, z),
+        Family::ISKNOWN => resolve(b"T  BR  Bt  Br  BB  B", x, y, z),
+        Family::NOT => resolve(b"B  B", x, y, z),
+        Family::COUNT => resolve(b"r  It  I", x, y, z),
+        Family::SUM => resolve(b"i  Ir  R", x, y, z),
+        Family::EXTREME => resolve(b"i  Ir  Rt  T", x, y, z),
+        Family::NTH => resolve(b"Ii IIr RIt T", x, y, z),
+        Family::TASK_STATE => resolve(b"T  B", x, y, z),
+        _ => 0,
+    }
+}
+
+// The allowed types of every operator. In two functions, for each makes its lists anew when it is called.
 pub fn apply(tens: usize, x: u8, y: u8, z: u8) -> u8
     ensures { λ r. ⌜ r ≡ resolveOf (x ∷ y ∷ z ∷ []) (listOf tens) ⌝ }
 {
@@ -103,14 +120,6 @@ pub fn apply(tens: usize, x: u8, y: u8, z: u8) -> u8
         Family::INCLUDES => resolve(b"tT BrR B", x, y, z),
         Family::ONEOF => resolve(b"Tt BRr B", x, y, z),
         Family::IF => resolve(b"BBBBBIIIBRRRBTTTBiiiBrrrBttt", x, y, z),
-        Family::NEGATE => resolve(b"I  IR  R", x, y, z),
-        Family::ISKNOWN => resolve(b"T  BR  Bt  Br  BB  B", x, y, z),
-        Family::NOT => resolve(b"B  B", x, y, z),
-        Family::COUNT => resolve(b"r  It  I", x, y, z),
-        Family::SUM => resolve(b"i  Ir  R", x, y, z),
-        Family::EXTREME => resolve(b"i  Ir  Rt  T", x, y, z),
-        Family::NTH => resolve(b"Ii IIr RIt T", x, y, z),
-        Family::TASK_STATE => resolve(b"T  B", x, y, z),
-        _ => 0,
+        _ => apply_function(tens, x, y, z),
     }
 }

@@ -1,4 +1,4 @@
--- `apply`: each arm has the list that its number stands for.
+-- `apply`: each arm has the list that its number stands for; any other number is left to the functions.
 use mathlib.Core.Path.{_≡_, sym, ap, _∙_}
 use borrow.Author.Tests.{ne-eqb}
 use borrow.Author.Needs.{needs}
@@ -35,31 +35,7 @@ returns-7 : tie.Need-returns-7
 returns-7 c = let a = c .before .before .before .args in c .resolve7 .ensures ∙ chosen (a .x) (a .y) (a .z) (sym (c .before .before .match .keys7))
 
 returns-8 : tie.Need-returns-8
-returns-8 c = let a = c .before .before .before .args in c .resolve8 .ensures ∙ chosen (a .x) (a .y) (a .z) (sym (c .before .before .match .keys8))
-
-returns-9 : tie.Need-returns-9
-returns-9 c = let a = c .before .before .before .args in c .resolve9 .ensures ∙ chosen (a .x) (a .y) (a .z) (sym (c .before .before .match .keys9))
-
-returns-10 : tie.Need-returns-10
-returns-10 c = let a = c .before .before .before .args in c .resolve10 .ensures ∙ chosen (a .x) (a .y) (a .z) (sym (c .before .before .match .keys10))
-
-returns-11 : tie.Need-returns-11
-returns-11 c = let a = c .before .before .before .args in c .resolve11 .ensures ∙ chosen (a .x) (a .y) (a .z) (sym (c .before .before .match .keys11))
-
-returns-12 : tie.Need-returns-12
-returns-12 c = let a = c .before .before .before .args in c .resolve12 .ensures ∙ chosen (a .x) (a .y) (a .z) (sym (c .before .before .match .keys12))
-
-returns-13 : tie.Need-returns-13
-returns-13 c = let a = c .before .before .before .args in c .resolve13 .ensures ∙ chosen (a .x) (a .y) (a .z) (sym (c .before .before .match .keys13))
-
-returns-14 : tie.Need-returns-14
-returns-14 c = let a = c .before .before .before .args in c .resolve14 .ensures ∙ chosen (a .x) (a .y) (a .z) (sym (c .before .before .match .keys14))
-
-returns-15 : tie.Need-returns-15
-returns-15 c = let a = c .before .before .before .args in c .resolve15 .ensures ∙ chosen (a .x) (a .y) (a .z) (sym (c .before .before .match .keys15))
-
-returns-16 : tie.Need-returns-16
-returns-16 c = simp (ne-eqb _ 1 (c .match .rest .0 .0 .0 .0 .0 .0 .0 .0 .0 .0 .0 .0 .0 .0 .1), ne-eqb _ 2 (c .match .rest .0 .0 .0 .0 .0 .0 .0 .0 .0 .0 .0 .0 .0 .1), ne-eqb _ 3 (c .match .rest .0 .0 .0 .0 .0 .0 .0 .0 .0 .0 .0 .0 .1), ne-eqb _ 4 (c .match .rest .0 .0 .0 .0 .0 .0 .0 .0 .0 .0 .0 .1), ne-eqb _ 5 (c .match .rest .0 .0 .0 .0 .0 .0 .0 .0 .0 .0 .1), ne-eqb _ 6 (c .match .rest .0 .0 .0 .0 .0 .0 .0 .0 .0 .1), ne-eqb _ 7 (c .match .rest .0 .0 .0 .0 .0 .0 .0 .0 .1), ne-eqb _ 8 (c .match .rest .0 .0 .0 .0 .0 .0 .0 .1), ne-eqb _ 9 (c .match .rest .0 .0 .0 .0 .0 .0 .1), ne-eqb _ 10 (c .match .rest .0 .0 .0 .0 .0 .1), ne-eqb _ 11 (c .match .rest .0 .0 .0 .0 .1), ne-eqb _ 12 (c .match .rest .0 .0 .0 .1), ne-eqb _ 13 (c .match .rest .0 .0 .1), ne-eqb _ 14 (c .match .rest .0 .1), ne-eqb _ 15 (c .match .rest .1))
+returns-8 c = rw (ne-eqb _ 1 (c .before .match .rest .0 .0 .0 .0 .0 .0 .1), ne-eqb _ 2 (c .before .match .rest .0 .0 .0 .0 .0 .1), ne-eqb _ 3 (c .before .match .rest .0 .0 .0 .0 .1), ne-eqb _ 4 (c .before .match .rest .0 .0 .0 .1), ne-eqb _ 5 (c .before .match .rest .0 .0 .1), ne-eqb _ 6 (c .before .match .rest .0 .1), ne-eqb _ 7 (c .before .match .rest .1)) (c .apply-function .ensures)
 
 pub apply-spec : {M : Type 1} → statement M
-apply-spec = tie.close (tie.spec (λ c. search needs) (λ c κs. search needs) (λ c. search needs) (λ c κs. search needs) (λ c. search needs) (λ c κs. search needs) (λ c. search needs) (λ c κs. search needs) (λ c. search needs) (λ c κs. search needs) (λ c. search needs) (λ c κs. search needs) (λ c. search needs) (λ c κs. search needs) (λ c. search needs) (λ c κs. search needs) (λ c. search needs) (λ c κs. search needs) (λ c. search needs) (λ c κs. search needs) (λ c. search needs) (λ c κs. search needs) (λ c. search needs) (λ c κs. search needs) (λ c. search needs) (λ c κs. search needs) (λ c. search needs) (λ c κs. search needs) (λ c. search needs) (λ c κs. search needs) returns returns-2 returns-3 returns-4 returns-5 returns-6 returns-7 returns-8 returns-9 returns-10 returns-11 returns-12 returns-13 returns-14 returns-15 returns-16)
+apply-spec = tie.close (tie.spec (λ c. search needs) (λ c κs. search needs) (λ c. search needs) (λ c κs. search needs) (λ c. search needs) (λ c κs. search needs) (λ c. search needs) (λ c κs. search needs) (λ c. search needs) (λ c κs. search needs) (λ c. search needs) (λ c κs. search needs) (λ c. search needs) (λ c κs. search needs) (λ c κs. search needs) returns returns-2 returns-3 returns-4 returns-5 returns-6 returns-7 returns-8)
