@@ -71,11 +71,11 @@ kept-most n = go (decLt n 63)
 short-text : (s : List ℕ) (at : ℕ) → Short (textFrom s at)
 unfolding textFrom
 short-text s at =
-    let n = keptOf (closeOf s at - at) in
-    let e = cells-long s at (keptOf (closeOf s at - at)) in
-    let k = kept-most (closeOf s at - at) in
-    let h : length (cells s at (keptOf (closeOf s at - at))) < 64 = omega arith in
-    short-by (eqb (getD s (closeOf s at) 0) 34) _ _ (short h) no-short
+    let n = keptOf (closeOf 34 s at - at) in
+    let e = cells-long s at (keptOf (closeOf 34 s at - at)) in
+    let k = kept-most (closeOf 34 s at - at) in
+    let h : length (cells s at (keptOf (closeOf 34 s at - at))) < 64 = omega arith in
+    short-by (eqb (getD s (closeOf 34 s at) 0) 34) _ _ (short h) no-short
 
 short-word : (s : List ℕ) (at : ℕ) → Short (wordFrom s at)
 unfolding wordFrom

@@ -1,9 +1,10 @@
 // Names as guidelines write them: bare, or between single quotes.
 use parts::byte;
 use typed_value::lexemes::after;
+use typed_value::lexemes::close;
 use typed_value::lexemes::word_end;
 ghost use mathlib.Core.Path.{_≡_};
-ghost use Rattle.commands.specs.Names.{closesOf, closeOf, noName, quotedOf, nameOf};
+ghost use Rattle.commands.specs.Names.{noName, quotedOf, nameOf};
 
 // Where a name begins and ends, without its quotes, and the place behind it; whether there is one.
 pub struct Name {
@@ -25,37 +26,13 @@ pub fn none(at: usize) -> Name
     }
 }
 
-// Whether a quote closes that stands behind this byte: behind a backslash none does.
-fn closes(before: u8, b: u8) -> bool
-    ensures { λ r. ⌜ r ≡ closesOf before b ⌝ }
-{
-    if before == b'\\' {
-        return false;
-    }
-    b == b'\''
-}
-
-// The place of the quote that closes the name from here on, or the end.
-fn close(s: &[u8], from: usize) -> usize
-    ensures { λ r. ⌜ r ≡ closeOf (now (s .entry)) from ⌝ }
-{
-    let mut before = b'\'';
-    let mut p = from;
-    while p < s.len() {
-        if closes(before, s[p]) {
-            return p;
-        }
-        before = s[p];
-        p += 1;
-    }
-    p
-}
+const QUOTE: u8 = b'\'';
 
 // A name behind its opening quote.
 fn quoted(s: &[u8], from: usize) -> Name
     ensures { λ r. ⌜ r ≡ quotedOf (now (s .entry)) from ⌝ }
 {
-    let to = close(s, from);
+    let to = close(s, from, QUOTE);
     if s.len() <= to {
         return none(from);
     }
@@ -71,7 +48,7 @@ fn quoted(s: &[u8], from: usize) -> Name
 pub fn name_at(s: &[u8], at: usize) -> Name
     ensures { λ r. ⌜ r ≡ nameOf (now (s .entry)) at ⌝ }
 {
-    if byte(s, at) == b'\'' {
+    if byte(s, at) == QUOTE {
         return quoted(s, after(s, at));
     }
     let to = word_end(s, at);

@@ -1,11 +1,12 @@
 // Numbers and amounts of time: 3600, 6 weeks.
+use typed_value::lexemes::is_digit;
 use typed_value::lexemes::is_word;
 use typed_value::lexemes::skip;
 use typed_value::lexemes::word_end;
 ghost use mathlib.Core.Path.{_≡_};
 ghost use mathlib.Core.Bool.{cond, _||_};
 ghost use Prim.Native.Nat.{_≤_};
-ghost use Rattle.typed_value.specs.Lexemes.{digitb, wordAt};
+ghost use Rattle.typed_value.specs.Lexemes.{wordAt};
 ghost use Rattle.commands.specs.Times.{withDigit, numberOf, measureOf, isNone, secondsOf, noAmount, amountOf};
 
 // No number within the limits is greater; one that is so great stands for all that are beyond.
@@ -41,15 +42,6 @@ pub struct Amount {
     pub there: bool,
     pub seconds: u64,
     pub next: usize,
-}
-
-fn is_digit(b: u8) -> bool
-    ensures { λ r. ⌜ r ≡ digitb b ⌝ }
-{
-    if b'0' <= b {
-        return b <= b'9';
-    }
-    false
 }
 
 // A number with one digit more.

@@ -43,7 +43,7 @@ numberAt minus s at = numberTo minus s at (past digitb s at)
 -- ---- a text, behind its opening quote
 
 unfoldable pub textFrom : List ℕ → ℕ → Found Scalar
-textFrom s from = cond (eqb (getD s (closeOf s from) 0) 34) (found (text (cells s from (keptOf (closeOf s from - from)))) (afterOf s (closeOf s from))) (wrong Unclosed from)
+textFrom s from = cond (eqb (getD s (closeOf 34 s from) 0) 34) (found (text (cells s from (keptOf (closeOf 34 s from - from)))) (afterOf s (closeOf 34 s from))) (wrong Unclosed from)
 
 -- ---- words
 

@@ -57,7 +57,7 @@ told-number minus s at = told-by (leb (past digitb s at) at) _ _ (told-wrong ref
 
 told-text : (s : List ℕ) (at : ℕ) → Told (textFrom s at)
 unfolding textFrom
-told-text s at = told-by (eqb (getD s (closeOf s at) 0) 34) _ _ told-found (told-wrong refl)
+told-text s at = told-by (eqb (getD s (closeOf 34 s at) 0) 34) _ _ told-found (told-wrong refl)
 
 told-word : (s : List ℕ) (at : ℕ) → Told (wordFrom s at)
 unfolding wordFrom

@@ -1,4 +1,4 @@
--- A text between double quotes: where it ends, and how much of it is handed on. Definitions only.
+-- A text between quotes: where it ends, and how much of it is handed on. Definitions only.
 use Prim.Native.Nat.{ℕ, suc, _+_}
 use mathlib.Core.Bool.{Bool, false, cond}
 use mathlib.Core.List.{List, [], _∷_}
@@ -9,15 +9,15 @@ use lib.ListN.{drop}
 abbrev pub keptOf : ℕ → ℕ
 keptOf n = cond (ltb n 63) n 63
 
--- a double quote that stands behind the byte a, which is no backslash
-abbrev pub closesOf : ℕ → ℕ → Bool
-closesOf a b = cond (eqb a 92) false (eqb b 34)
+-- the quote q, which stands behind the byte a: that is no backslash
+abbrev pub closesOf : ℕ → ℕ → ℕ → Bool
+closesOf q a b = cond (eqb a 92) false (eqb b q)
 
 -- how many bytes stand before the quote that closes, from the first byte on, which stands behind the byte a
-abbrev pub inside : ℕ → List ℕ → ℕ
-inside a [] = 0
-inside a (b ∷ s) = cond (closesOf a b) 0 (suc (inside b s))
+abbrev pub inside : ℕ → ℕ → List ℕ → ℕ
+inside q a [] = 0
+inside q a (b ∷ s) = cond (closesOf q a b) 0 (suc (inside q b s))
 
 -- the place of the quote that closes a text from here on, behind its opening quote; or the end
-unfoldable pub closeOf : List ℕ → ℕ → ℕ
-closeOf s from = from + inside 34 (drop from s)
+unfoldable pub closeOf : ℕ → List ℕ → ℕ → ℕ
+closeOf q s from = from + inside q q (drop from s)

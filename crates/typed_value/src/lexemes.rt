@@ -1,10 +1,11 @@
-// Blanks and words of a line: where they end. No place that is answered lies behind the text.
+// Blanks, words and what stands between quotes: where they end. No place that is answered lies behind the text.
 use parts::byte;
 ghost use mathlib.Core.Path.{_≡_};
 ghost use mathlib.Core.Bool.{_&&_};
 ghost use lib.Dec.{leb};
 ghost use Rattle.typed_value.specs.Onward.{Onward};
 ghost use Rattle.typed_value.specs.Lexemes.{afterOf, past, blankb, digitb, letterb, wordAt};
+ghost use Rattle.typed_value.specs.Texts.{closesOf, closeOf};
 
 // The place behind one byte.
 pub fn after(s: &[u8], at: usize) -> usize
@@ -105,4 +106,30 @@ pub fn is_word(s: &[u8], from: usize, to: usize, word: &[u8]) -> bool
         i += 1;
     }
     true
+}
+
+// Whether a quote closes that stands behind this byte: behind a backslash none does.
+fn closes(quote: u8, before: u8, b: u8) -> bool
+    ensures { λ r. ⌜ r ≡ closesOf quote before b ⌝ }
+{
+    if before == b'\\' {
+        return false;
+    }
+    b == quote
+}
+
+// The place of the quote that closes what stands from here on, behind its opening quote; or the end.
+pub fn close(s: &[u8], from: usize, quote: u8) -> usize
+    ensures { λ r. ⌜ Onward (now (s .entry)) from r × (r ≡ closeOf quote (now (s .entry)) from) ⌝ }
+{
+    let mut before = quote;
+    let mut p = from;
+    while p < s.len() {
+        if closes(quote, before, s[p]) {
+            return p;
+        }
+        before = s[p];
+        p += 1;
+    }
+    p
 }

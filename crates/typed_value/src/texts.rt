@@ -5,6 +5,7 @@ use crate::elements::Room;
 use crate::elements::found;
 use crate::elements::wrong;
 use crate::lexemes::after;
+use crate::lexemes::close;
 use crate::steps::Slip;
 use parts::HANDLE;
 use parts::byte;
@@ -13,36 +14,12 @@ ghost use Prim.Native.Nat.{_+_, _*_, _≤_, _<_};
 ghost use lib.IntN.{pos};
 ghost use Rattle.parts.specs.Texts.{cells};
 ghost use Rattle.typed_value.specs.Onward.{Onward};
-ghost use Rattle.typed_value.specs.Texts.{keptOf, closesOf, closeOf};
+ghost use Rattle.typed_value.specs.Texts.{keptOf};
 ghost use Rattle.typed_value.specs.Elements.{textFrom};
 ghost use Rattle.typed_value.specs.Cells.{spread};
 ghost use Rattle.typed_value.specs.Readings.{elementOf, textAfter};
 
-// Whether a quote closes that stands behind this byte.
-fn closes(before: u8, b: u8) -> bool
-    ensures { λ r. ⌜ r ≡ closesOf before b ⌝ }
-{
-    if before == b'\\' {
-        return false;
-    }
-    b == b'"'
-}
-
-// The place of the quote that closes the text from here on, or the end.
-fn close(s: &[u8], from: usize) -> usize
-    ensures { λ r. ⌜ Onward (now (s .entry)) from r × (r ≡ closeOf (now (s .entry)) from) ⌝ }
-{
-    let mut before = b'"';
-    let mut p = from;
-    while p < s.len() {
-        if closes(before, s[p]) {
-            return p;
-        }
-        before = s[p];
-        p += 1;
-    }
-    p
-}
+const QUOTE: u8 = b'"';
 
 // As many bytes as a handle can tell: one that is longer stands for all that are beyond the limit.
 pub fn kept(n: usize) -> usize
@@ -70,8 +47,8 @@ pub fn inside(s: &[u8], from: usize, bytes: &mut [u8], i: usize) -> Element
     requires { ⌜ i < 20 ⌝ }
     ensures { λ r. ⌜ Onward (now (s .entry)) from (r .place) × (r ≡ elementOf i (textFrom (now (s .entry)) from)) × (now (bytes .exit) ≡ textAfter i (textFrom (now (s .entry)) from) (now (bytes .entry))) ⌝ }
 {
-    let p = close(s, from);
-    if byte(s, p) != b'"' {
+    let p = close(s, from, QUOTE);
+    if byte(s, p) != QUOTE {
         return wrong(from, Slip::Unclosed);
     }
     found(Kind::TEXT, copy(s, from, p - from, bytes, i), after(s, p))

@@ -1,7 +1,7 @@
 -- `closes`: behind a backslash, or not.
 use borrow.Author.Tests.{eq-eqb, ne-eqb}
-use Rattle.typed_value.proofs.texts.closes.Statement.{statement}
-use Rattle.typed_value.proofs.texts.closes.Tie as tie
+use Rattle.typed_value.proofs.lexemes.closes.Statement.{statement}
+use Rattle.typed_value.proofs.lexemes.closes.Tie as tie
 
 returns : tie.Need-returns
 returns c = rw (eq-eqb (c .before .args .before) 92 (c .if1 .taken))
