@@ -14,7 +14,7 @@ pub fn confirm(rows: &[u32], texts: &[u8], plan: &[u32], state: &mut [u32], name
         known_names::none(rows, texts, plan, Sort::Task, name);
         return;
     }
-    match schotterei::confirm(plan, state, t as u64) {
+    match confirming::confirm(plan, state, t as u64) {
         Reply::Done => {
             known_names::tell(rows, texts, plan, Sort::Task, t);
             write::text(b" is confirmed.\n");

@@ -94,7 +94,7 @@ pub fn enact(
     let m = asking::ask(parts, texts, plan, waits, state, &mut out);
     assigned::gather(parts, texts, plan, state, &out, m, &mut news);
     done::hush(&mut out, m, state);
-    let r = schotterei::run_alone(parts, texts, plan, waits, state, Changes::ROWS, 1);
+    let r = runs::run_alone(parts, texts, plan, waits, state, Changes::ROWS, 1);
     if is_enacted(r) {
         tell(rows, texts, plan, &out, m, &news, n);
         return r;

@@ -52,7 +52,7 @@ fn add(
 )
     ensures { λ _. ⌜ CellsGiven d (now (tags .entry)) (now (numbers .entry)) (now (bytes .entry)) (now (texts .entry)) (now (plan .entry)) (now (state .entry)) (now (texts .exit)) (now (state .exit)) ⌝ }
 {
-    match schotterei::add(texts, plan, state, d as u64, tags, numbers, bytes) {
+    match adding::add(texts, plan, state, d as u64, tags, numbers, bytes) {
         Reply::Done => {
             known_names::tell(rows, texts, plan, Sort::Item, d);
             write::text(b" is set.\n");

@@ -38,7 +38,7 @@ fn begin(text: &[u8], s: Seen) {
     let mut waits = [[false; Waits::SIDE]; Waits::SIDE];
     let mut texts = [0u8; load::Texts::LEAST];
     let mut state = [0u32; opening::State::LEAST];
-    match schotterei::load(
+    match load::load(
         text,
         &mut rows,
         &mut parts,

@@ -29,7 +29,7 @@ fn tell(state: &[u32]) {
 pub fn set(state: &mut [u32], time: u64)
     ensures { λ _. ⌜ TimeSet time (now (state .entry)) (now (state .exit)) ⌝ }
 {
-    match schotterei::set_time(state, time) {
+    match clock::set_time(state, time) {
         Reply::Done => tell(state),
         Reply::Refused(n) => {
             refusals::head(n);

@@ -92,10 +92,10 @@ fn followed(
     ensures { λ r. ⌜ RunsAlone bound 1024 (now (parts .entry)) (now (texts .entry)) (now (plan .entry)) waits (now (state .entry)) (now (texts .exit)) (now (state .exit)) r ⌝ }
 {
     if (Run::CYCLES as u64) < bound {
-        return schotterei::run_alone(parts, texts, plan, waits, state, Changes::ROWS, bound);
+        return runs::run_alone(parts, texts, plan, waits, state, Changes::ROWS, bound);
     }
     if bound == 0 {
-        return schotterei::run_alone(parts, texts, plan, waits, state, Changes::ROWS, bound);
+        return runs::run_alone(parts, texts, plan, waits, state, Changes::ROWS, bound);
     }
     one_by_one(rows, parts, texts, plan, waits, state, bound as u32)
 }

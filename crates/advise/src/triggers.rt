@@ -52,7 +52,7 @@ fn sent(rows: &[u32], texts: &[u8], plan: &[u32], state: &[u32], name: &[u8]) {
 pub fn trigger(rows: &[u32], texts: &[u8], plan: &[u32], state: &mut [u32], name: &[u8])
     ensures { λ _. ⌜ TriggerSent (now (name .entry)) (now (texts .entry)) (now (plan .entry)) (now (state .entry)) (now (state .exit)) ⌝ }
 {
-    match schotterei::trigger(texts, plan, state, name) {
+    match triggering::trigger(texts, plan, state, name) {
         Reply::Done => sent(rows, texts, plan, state, name),
         Reply::Refused(n) => {
             refusals::head(n);

@@ -83,7 +83,7 @@ pub extern "C" fn schotterei_load(
     ensures { λ r. ⌜ Loads (now (text .entry)) (lent (now (rows .entry)) (now (parts .entry)) (now (plan .entry)) no-waits (now (texts .entry)) (now (state .entry))) (now (rows .exit)) (now (parts .exit)) (now (plan .exit)) (now (waits .exit)) (now (texts .exit)) (now (state .exit)) r ⌝ }
 {
     let mut w = [[false; Waits::SIDE]; Waits::SIDE];
-    let reply = schotterei::load(text, rows, parts, plan, &mut w, texts, state);
+    let reply = load::load(text, rows, parts, plan, &mut w, texts, state);
     *waits = square::pack(w);
     loaded(reply)
 }
@@ -101,21 +101,21 @@ pub extern "C" fn schotterei_run(
     ensures { λ r. ⌜ Runs bound (now (parts .entry)) (now (texts .entry)) (now (plan .entry)) (squareOf (now (waits .entry))) (now (state .entry)) (now (texts .exit)) (now (state .exit)) (now (changes .entry)) (now (changes .exit)) r ⌝ }
 {
     let w = square::unpack(waits);
-    ran(schotterei::run(parts, texts, plan, w, state, changes, bound))
+    ran(runs::run(parts, texts, plan, w, state, changes, bound))
 }
 
 #[no_mangle]
 pub extern "C" fn schotterei_set_time(state: &mut [u32], time: u64) -> Outcome
     ensures { λ r. ⌜ SetsTime time (now (state .entry)) (now (state .exit)) r ⌝ }
 {
-    replied(schotterei::set_time(state, time))
+    replied(clock::set_time(state, time))
 }
 
 #[no_mangle]
 pub extern "C" fn schotterei_confirm(plan: &[u32], state: &mut [u32], task: u64) -> Outcome
     ensures { λ r. ⌜ Confirms task (now (plan .entry)) (now (state .entry)) (now (state .exit)) r ⌝ }
 {
-    replied(schotterei::confirm(plan, state, task))
+    replied(confirming::confirm(plan, state, task))
 }
 
 #[no_mangle]
@@ -130,7 +130,7 @@ pub extern "C" fn schotterei_add(
 ) -> Outcome
     ensures { λ r. ⌜ Adds item (now (tags .entry)) (now (numbers .entry)) (now (bytes .entry)) (now (texts .entry)) (now (plan .entry)) (now (state .entry)) (now (texts .exit)) (now (state .exit)) r ⌝ }
 {
-    replied(schotterei::add(texts, plan, state, item, tags, numbers, bytes))
+    replied(adding::add(texts, plan, state, item, tags, numbers, bytes))
 }
 
 #[no_mangle]
@@ -142,7 +142,7 @@ pub extern "C" fn schotterei_trigger(
 ) -> Outcome
     ensures { λ r. ⌜ Triggers (now (name .entry)) (now (texts .entry)) (now (plan .entry)) (now (state .entry)) (now (state .exit)) r ⌝ }
 {
-    replied(schotterei::trigger(texts, plan, state, name))
+    replied(triggering::trigger(texts, plan, state, name))
 }
 
 #[no_mangle]
@@ -160,6 +160,6 @@ pub extern "C" fn schotterei_read(
     ensures { λ r. ⌜ Reads kind component property (now (texts .entry)) (now (plan .entry)) (squareOf (now (waits .entry))) (now (state .entry)) (now (cells .exit)) (now (bytes .exit)) r ⌝ }
 {
     let w = square::unpack(waits);
-    let row = schotterei::read(plan, w, state, kind, component, property);
+    let row = row_read::read(plan, w, state, kind, component, property);
     row_numbers::tell(texts, row, cells, bytes)
 }

@@ -48,7 +48,7 @@ fn load(
         return o;
     }
     let mut rows = [0u32; Rows::CELLS];
-    match schotterei::load(&s[from..to], &mut rows, parts, plan, waits, texts, state) {
+    match load::load(&s[from..to], &mut rows, parts, plan, waits, texts, state) {
         load::Reply::Done => word(b"loaded\n", out, o),
         load::Reply::Refused(n, place) => refused_line(n, place, out, o),
     }
@@ -81,7 +81,7 @@ fn run(
     if ROWS_LENT < lent {
         return Ran::Refused(6);
     }
-    schotterei::run_alone(parts, texts, plan, waits, state, lent as usize, bound)
+    runs::run_alone(parts, texts, plan, waits, state, lent as usize, bound)
 }
 
 // Sends the first n bytes.
@@ -99,7 +99,7 @@ fn trigger(
     if bytes.len() < n {
         return o;
     }
-    replied(schotterei::trigger(texts, plan, state, &bytes[..n]), out, o)
+    replied(triggering::trigger(texts, plan, state, &bytes[..n]), out, o)
 }
 
 // The line of a row's value.
@@ -116,7 +116,7 @@ fn row(
 ) -> usize
     ensures { λ r. ⌜ RowAnswered kind number property (now (texts .entry)) (now (plan .entry)) waits (now (state .entry)) (buffer (now (out .entry)) o) (buffer (now (out .exit)) r) ⌝ }
 {
-    let row = schotterei::read(plan, waits, state, kind, number, property);
+    let row = row_read::read(plan, waits, state, kind, number, property);
     let p = shown(texts, row, out, o);
     byte(b'\n', out, p)
 }
@@ -142,10 +142,10 @@ fn answer(
     match c {
         Call::Load(from, to) => load(s, from, to, parts, plan, waits, texts, state, out, o),
         Call::Run(bound, lent) => ran(run(parts, texts, plan, *waits, state, lent, bound), out, o),
-        Call::Time(time) => replied(schotterei::set_time(state, time), out, o),
-        Call::Confirm(task) => replied(schotterei::confirm(plan, state, task), out, o),
+        Call::Time(time) => replied(clock::set_time(state, time), out, o),
+        Call::Confirm(task) => replied(confirming::confirm(plan, state, task), out, o),
         Call::Add(item) => replied(
-            schotterei::add(texts, plan, state, item, tags, numbers, bytes),
+            adding::add(texts, plan, state, item, tags, numbers, bytes),
             out,
             o,
         ),

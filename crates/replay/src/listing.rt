@@ -55,7 +55,7 @@ fn row(
 ) -> usize
     ensures { λ r. ⌜ RowListed (now (texts .entry)) (now (plan .entry)) waits (now (state .entry)) kind number property (buffer (now (out .entry)) o) (buffer (now (out .exit)) r) ⌝ }
 {
-    let row = schotterei::read(plan, waits, state, kind, number, property);
+    let row = row_read::read(plan, waits, state, kind, number, property);
     let s = row.shown;
     if is_row(s) {
         return row_line(texts, kind, number, property, row, out, o);
@@ -89,7 +89,7 @@ fn component(
 fn is_there(plan: &[u32], waits: WaitTable, state: &[u32], kind: u64, number: u64) -> bool
     ensures { λ r. ⌜ IsThere (now (plan .entry)) waits (now (state .entry)) kind number r ⌝ }
 {
-    let row = schotterei::read(plan, waits, state, kind, number, CLASS);
+    let row = row_read::read(plan, waits, state, kind, number, CLASS);
     let s = row.shown;
     is_row(s)
 }
@@ -165,7 +165,7 @@ pub fn all(
 ) -> usize
     ensures { λ r. ⌜ RowsAnswered (now (texts .entry)) (now (plan .entry)) waits (now (state .entry)) (buffer (now (out .entry)) o) (buffer (now (out .exit)) r) ⌝ }
 {
-    let root = schotterei::read(plan, waits, state, Kind::TASK, 0, CLASS);
+    let root = row_read::read(plan, waits, state, Kind::TASK, 0, CLASS);
     let s = root.shown;
     if is_refused(s) {
         return refused_line(refusal(s), 0, out, o);

@@ -68,7 +68,7 @@ fn open(text: &[u8]) {
     let mut waits = [[false; Waits::SIDE]; Waits::SIDE];
     let mut texts = io::large_buffer();
     let mut state = [0u32; Cells::STATE];
-    match schotterei::load(
+    match load::load(
         text,
         &mut rows,
         &mut parts,

@@ -20,7 +20,7 @@ fn add_cells(
 ) -> u8
     ensures { λ r. ⌜ CellsAdded item (now (tags .entry)) (now (numbers .entry)) (now (bytes .entry)) (now (texts .entry)) (now (plan .entry)) (now (state .entry)) (now (texts .exit)) (now (state .exit)) r ⌝ }
 {
-    match schotterei::add(texts, plan, state, item as u64, tags, numbers, bytes) {
+    match adding::add(texts, plan, state, item as u64, tags, numbers, bytes) {
         Reply::Done => Refusal::NONE,
         Reply::Refused(number) => number,
     }

@@ -45,7 +45,7 @@ fn run_once(
     ensures { λ r. ⌜ RunsOnce (now (parts .entry)) (now (plan .entry)) waits (now (texts .entry)) (now (state .entry)) (now (texts .exit)) (now (state .exit)) (r .ending) (r .cycles) ⌝ }
     ensures few { λ r. ⌜ r .cycles ≤ 4294967295 ⌝ }
 {
-    match schotterei::run_alone(
+    match runs::run_alone(
         parts,
         texts,
         plan,
@@ -79,7 +79,7 @@ fn confirm_one(plan: &[u32], state: &mut [u32], t: usize) -> bool
     ensures { λ r. ⌜ Confirmed (now (plan .entry)) t (now (state .entry)) (now (state .exit)) r ⌝ }
 {
     if is_waiting(plan, state, t) {
-        schotterei::confirm(plan, state, t as u64);
+        confirming::confirm(plan, state, t as u64);
         return true;
     }
     false
