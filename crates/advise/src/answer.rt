@@ -1,6 +1,11 @@
 // What is done for a line.
+use crate::confirms;
+use crate::giving;
 use crate::help;
 use crate::shown;
+use crate::timing;
+use crate::told_run;
+use crate::triggers;
 use commands::Command;
 use limits::Run;
 use limits::WaitTable;
@@ -64,19 +69,19 @@ fn obey(
 {
     match c {
         Command::Give(from, to, at) => {
-            crate::giving::give(line, part(line, from, to), at, rows, texts, plan, state);
+            giving::give(line, part(line, from, to), at, rows, texts, plan, state);
         }
-        Command::Run => crate::told_run::run(rows, parts, texts, plan, waits, state, CYCLES),
-        Command::RunFor(n) => crate::told_run::run(rows, parts, texts, plan, waits, state, n),
+        Command::Run => told_run::run(rows, parts, texts, plan, waits, state, CYCLES),
+        Command::RunFor(n) => told_run::run(rows, parts, texts, plan, waits, state, n),
         Command::Confirm(from, to) => {
-            crate::confirms::confirm(rows, texts, plan, state, part(line, from, to));
+            confirms::confirm(rows, texts, plan, state, part(line, from, to));
         }
         Command::Trigger(from, to) => {
-            crate::triggers::trigger(rows, texts, plan, state, part(line, from, to));
+            triggers::trigger(rows, texts, plan, state, part(line, from, to));
         }
-        Command::Time(n) => crate::timing::set(state, n),
-        Command::Later(n) => crate::timing::later(state, n),
-        Command::Earlier(n) => crate::timing::earlier(state, n),
+        Command::Time(n) => timing::set(state, n),
+        Command::Later(n) => timing::later(state, n),
+        Command::Earlier(n) => timing::earlier(state, n),
         Command::Nothing => {}
         Command::Tree => show(c, line, rows, parts, texts, plan, waits, state),
         Command::Asked => show(c, line, rows, parts, texts, plan, waits, state),

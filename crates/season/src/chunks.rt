@@ -3,6 +3,7 @@ use crate::buffer::flush;
 use crate::first_line;
 use crate::joined::plan_of;
 use crate::one_line::Season;
+use crate::records;
 use crate::records::Work;
 use libc::STDIN_FILENO;
 use limits::WaitTable;
@@ -35,7 +36,7 @@ fn taken(
         answered: w.answered,
     };
     if scan.done {
-        return crate::records::answer(tables, waits, texts, columns, kept, ends, s, now, out);
+        return records::answer(tables, waits, texts, columns, kept, ends, s, now, out);
     }
     now
 }
@@ -133,7 +134,7 @@ fn begin(
         n: chunk.len(),
         at: t.at,
         season: season,
-        work: crate::records::begin(scan.lines, o, 0),
+        work: records::begin(scan.lines, o, 0),
     }
 }
 

@@ -1,4 +1,5 @@
 // The first line of the sheet.
+use crate::reports;
 use season_answer::heading;
 use separated::Fault;
 use separated::Scan;
@@ -55,12 +56,12 @@ fn is_line(scan: Scan) -> bool
 {
     if scan.began {
         if scan.fault != Fault::NONE {
-            crate::reports::fault(1, scan.wrong, scan.fault);
+            reports::fault(1, scan.wrong, scan.fault);
             return false;
         }
         return true;
     }
-    crate::reports::no_heading();
+    reports::no_heading();
     false
 }
 
@@ -79,7 +80,7 @@ pub fn is_well(
         if season_answer::read_columns(plan, texts, kept, ends, scan.fields, columns) {
             return true;
         }
-        crate::reports::refused();
+        reports::refused();
         return false;
     }
     false

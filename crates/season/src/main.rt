@@ -13,7 +13,7 @@ mod records;
 mod reports;
 mod until_quiet;
 
-use crate::joined::Cells;
+use joined::Cells;
 use limits::WaitTable;
 use limits::Waits;
 use load::Reply;
@@ -31,7 +31,7 @@ fn confirms() -> bool {
 // What load left, as one table of cells.
 fn all_of(parts: &[u32], plan: &[u32], waits: WaitTable, texts: &[u8], state: &[u32]) {
     let mut tables = [0u32; Cells::ALL];
-    crate::joined::join(parts, plan, state, &mut tables);
+    joined::join(parts, plan, state, &mut tables);
     on_sheet(&tables, waits, texts);
 }
 
@@ -78,7 +78,7 @@ fn open(text: &[u8]) {
         &mut state,
     ) {
         Reply::Done => all_of(&parts, &plan, waits, &texts, &state),
-        Reply::Refused(number, place) => crate::reports::guideline(number, place),
+        Reply::Refused(number, place) => reports::guideline(number, place),
     }
 }
 

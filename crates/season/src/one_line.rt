@@ -1,8 +1,12 @@
 // One line: its values are added to the guideline as it was loaded, the guideline runs, and the answer is written.
+use crate::fields;
 use crate::joined::Cells;
 use crate::joined::parts_of;
 use crate::joined::plan_of;
 use crate::joined::state_of;
+use crate::one_value;
+use crate::reports;
+use crate::until_quiet;
 use crate::until_quiet::Ended;
 use field_values::Refusal;
 use limits::DataItems;
@@ -47,7 +51,7 @@ fn tell(line: u64, i: usize, texts: &[u8], name: usize, number: u8, f: &[u8], de
     if number == Refusal::NONE {
         return;
     }
-    crate::reports::value(line, i, texts, name, number, f, declared);
+    reports::value(line, i, texts, name, number, f, declared);
 }
 
 // Adds the field `i`: the number of its refusal, which is told, or none.
@@ -63,7 +67,7 @@ fn add_field(
 ) -> First
     ensures { λ r. ⌜ answers.Entered (now (columns .entry)) (now (kept .entry)) (now (ends .entry)) (now (plan .entry)) i (now (texts .entry)) (now (state .entry)) (now (texts .exit)) (now (state .exit)) (r .number) (r .name) ⌝ }
 {
-    let d = crate::fields::item_of(columns, i);
+    let d = fields::item_of(columns, i);
     let name = cell(plan, Plan::ITEM_NAME, d);
     if DataItems::LIMIT <= d {
         return First {
@@ -72,7 +76,7 @@ fn add_field(
         };
     }
     let f = field(kept, ends, i);
-    let number = crate::one_value::add(texts, plan, state, d as u32, f);
+    let number = one_value::add(texts, plan, state, d as u32, f);
     let declared = blocks::cell(plan, Plan::ITEM_TYPE + d);
     tell(line, i, texts, name, number, f, declared);
     First {
@@ -170,7 +174,7 @@ fn in_tables(
     if r.number != Refusal::NONE {
         return write_refused(plan, texts, r, s.separator, out, o);
     }
-    let e = crate::until_quiet::run(
+    let e = until_quiet::run(
         parts,
         texts,
         plan,

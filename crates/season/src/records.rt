@@ -3,6 +3,7 @@ use crate::buffer::room;
 use crate::joined::plan_of;
 use crate::one_line;
 use crate::one_line::Season;
+use crate::reports;
 use limits::WaitTable;
 use separated::Fault;
 use separated::Scan;
@@ -34,7 +35,7 @@ fn one_more(n: u64) -> u64
 
 fn tell_progress(answered: u64) {
     if answered % STRIDE == 0 {
-        crate::reports::progress(answered);
+        reports::progress(answered);
     }
 }
 
@@ -55,11 +56,11 @@ fn is_spoilt(scan: Scan, line: u64, many: usize) -> bool
     ensures { λ r. ⌜ r ≡ sheet.is-spoilt scan many ⌝ }
 {
     if scan.fault != Fault::NONE {
-        crate::reports::fault(line, scan.wrong, scan.fault);
+        reports::fault(line, scan.wrong, scan.fault);
         return true;
     }
     if scan.fields != many {
-        crate::reports::fields(line, scan.fields, many);
+        reports::fields(line, scan.fields, many);
         return true;
     }
     false

@@ -1,4 +1,5 @@
 // What a condition is made of: the data items that it names with their values, the tasks that it asks for with their states.
+use crate::mentions;
 use limits::DataItems;
 use limits::Tasks;
 use sentences::write;
@@ -34,7 +35,7 @@ fn item(texts: &[u8], plan: &[u32], state: &[u32], is_named: bool, any: bool, d:
 }
 
 fn items(parts: &[u32], texts: &[u8], plan: &[u32], state: &[u32], e: usize) -> bool {
-    let m = crate::mentions::items(parts, texts, plan, e);
+    let m = mentions::items(parts, texts, plan, e);
     let mut any = false;
     let mut d = 0usize;
     while d < DataItems::LIMIT {
@@ -73,7 +74,7 @@ fn tasks(
     e: usize,
     any: bool,
 ) {
-    let m = crate::mentions::tasks(parts, texts, plan, e);
+    let m = mentions::tasks(parts, texts, plan, e);
     let mut told = any;
     let mut t = 0usize;
     while t < Tasks::LIMIT {

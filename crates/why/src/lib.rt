@@ -7,8 +7,8 @@ mod leaving;
 mod mentions;
 mod running;
 
-use crate::ahead::Move;
-use crate::ahead::Review;
+use ahead::Move;
+use ahead::Review;
 use limits::Marks;
 use limits::Tasks;
 use limits::WaitTable;
@@ -154,8 +154,8 @@ fn moves(
     state: &[u32],
     t: usize,
 ) {
-    let n = crate::ahead::next(parts, texts, plan, waits, state);
-    match crate::ahead::ahead(n, t) {
+    let n = ahead::next(parts, texts, plan, waits, state);
+    match ahead::ahead(n, t) {
         Move::Initialise => initialised(rows, texts, plan, n, t),
         Move::Start => leaving::started(texts, plan, state, t),
         Move::Discard => discarded(rows, parts, texts, plan, waits, state, n, t),

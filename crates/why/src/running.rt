@@ -1,4 +1,5 @@
 // What a task in progress waits for before it is completed: 8.6.4, and 8.6.8 of a plan.
+use crate::ahead;
 use crate::ahead::Move;
 use crate::ahead::Review;
 use crate::condition;
@@ -136,7 +137,7 @@ fn component(
     }
     write::text(b"  It waits for its component ");
     worded::task(rows, texts, plan, c);
-    doing(state, crate::ahead::ahead(n, c), c);
+    doing(state, ahead::ahead(n, c), c);
 }
 
 // 8.6.8, 2, of the task `c`, if it is a component that ends the plan.
