@@ -9,28 +9,28 @@ use Rattle.blank.specs.Zeros.{all_zero, one_zero}
 use Rattle.blank.proofs.clear_bytes.Statement.{statement}
 use Rattle.blank.proofs.clear_bytes.Tie as tie
 
-abbrev invariant-loop : tie.invariant-loop
+abbrev invariant-loop : tie.invariant-loop-i
 invariant-loop cells₀ i₀ cells i = (length cells ≡ length cells₀) × (i ≤ length cells) × ((k : ℕ) → k < i → get_or cells k 0 ≡ 0)
 
-abbrev decreases-loop : tie.decreases-loop
+abbrev decreases-loop : tie.decreases-loop-i
 decreases-loop cells₀ i₀ cells i = length cells₀ - i
 
-loop-holds : tie.Need-loop-init invariant-loop decreases-loop
+loop-holds : tie.Need-loop-i-init invariant-loop decreases-loop
 loop-holds c = (search rules, omega arith, below_none _)
 
-loop-again : tie.Need-loop-preserved invariant-loop decreases-loop
+loop-again : tie.Need-loop-i-preserved invariant-loop decreases-loop
 loop-again c =
-    let l = c.before.loop in
-    (length-set l.cells l.i 0 ∙ l.invariant.0, simp length-set (omega arith), one_zero l.cells l.i c.loop-test.true l.invariant.2)
+    let l = c.before.loop-i in
+    (length-set l.cells l.i 0 ∙ l.invariant.0, simp length-set (omega arith), one_zero l.cells l.i c.loop-i-test.true l.invariant.2)
 
-same_length : tie.Need-same-length invariant-loop decreases-loop
-same_length c = c.before.loop.invariant.0
+same_length : tie.Need-shape_of-cells invariant-loop decreases-loop
+same_length c = c.before.loop-i.invariant.0
 
 returns : tie.Need-returns invariant-loop decreases-loop
-returns c = let l = c.before.loop in all_zero l.cells _ l.invariant.0 (λ k h. l.invariant.2 k (omega arith))
+returns c = let l = c.before.loop-i in all_zero l.cells _ l.invariant.0 (λ k h. l.invariant.2 k (omega arith))
 
-pub clear-bytes-spec : {M : Type 1} → statement M
-clear-bytes-spec =
+pub clear_bytes_spec : {M : Type 1} → statement M
+clear_bytes_spec =
     tie.close
     (tie.spec
     invariant-loop

@@ -53,14 +53,18 @@ holds f (all_more p ps) (one_fits h hs) = hold (f _ _ p h) (holds f ps hs)
 
 text_one : (u : Ty) (w : Value) → TextType u → Of w u → IsOne Text w
 text_one u w text_type (of_scalar h) = is_one h
+text_one _ _ text_type (of_list {l = l} {e = e} x8 _) = elim x8 [ ]
 
 integer_one : (u : Ty) (w : Value) → IntegerType u → Of w u → IsOne Integer w
 integer_one u w integer_type (of_scalar h) = is_one h
+integer_one _ _ integer_type (of_list {l = l} {e = e} x8 _) = elim x8 [ ]
 
 real_one : (u : Ty) (w : Value) → IntegerOrReal u → Of w u → IsOne Real w
 real_one u w integer_or (of_scalar unknown_of_any) = is_one unknown_of_any
 real_one u w integer_or (of_scalar integer-of) = is_one integer_counts_as_real
 real_one u w or_real (of_scalar h) = is_one h
+real_one _ _ integer_or (of_list {l = l} {e = e} x8 _) = elim x8 [ ]
+real_one _ _ or_real (of_list {l = l} {e = e} x9 _) = elim x9 [ ]
 
 pub record Makes (ws : List Value) (t : Ty) : Type 0 where
   pub content : List Scalar

@@ -45,6 +45,9 @@ data Under : ℕ → ℕ → Type 0 where
 
 under_child : {p q c : ℕ} → Under p q → Child c q → Under p c
 under_child (children of_root) of_first = grandchild
+under_child {c = c} (children of_first) x10 = elim x10 [ ]
+under_child {c = c} (children other_of_root) x11 = elim x11 [ ]
+under_child {c = c} grandchild x5 = elim x5 [ ]
 
 under : {p c : ℕ} {k : Clause} → IsAncestor family p c k → Under p c
 under (ancestor_1 {t2} h) = children (child t2 (parent_is h))

@@ -72,6 +72,16 @@ negate_limited : {r : Value} {c : Clause} {v : Value} → Limited v → Negate v
 negate_limited (one_limited (integer_small i)) (negate_1a (is_integer {n})) = one_limited (integer_small {n = neg_ℤ n} (let e = neg_abs n in omega arith))
 negate_limited (one_limited (real_small i)) (negate_1b (is_real {n})) = one_limited (real_small {n = neg_ℤ n} (let e = neg_abs n in omega arith))
 negate_limited h (negate_2 n u) = nothing_known
+negate_limited (one_limited unknown_small) (negate_1a x14) = elim x14 [ ]
+negate_limited (one_limited (truth_small {b = b})) (negate_1a x15) = elim x15 [ ]
+negate_limited (one_limited (real_small {n = n} i)) (negate_1a x17) = elim x17 [ ]
+negate_limited (one_limited (text_small {s = s} _)) (negate_1a x19) = elim x19 [ ]
+negate_limited (list_limited {l = l} _ _) (negate_1a x15) = elim x15 [ ]
+negate_limited (one_limited unknown_small) (negate_1b x15) = elim x15 [ ]
+negate_limited (one_limited (truth_small {b = b})) (negate_1b x16) = elim x16 [ ]
+negate_limited (one_limited (integer_small {n = n} i)) (negate_1b x18) = elim x18 [ ]
+negate_limited (one_limited (text_small {s = s} _)) (negate_1b x20) = elim x20 [ ]
+negate_limited (list_limited {l = l} _ _) (negate_1b x16) = elim x16 [ ]
 
 isknown_limited : {r : Value} {c : Clause} {v : Value} → IsKnown v c r → Limited r
 isknown_limited (isknown_1 h) = a_truth
@@ -85,6 +95,7 @@ count_limited : {r : Value} {c : Clause} {v : Value} → Limited v → Count v c
 count_limited (list_limited b h) (count_1 {s} {l} is_sequence) = one_limited (integer_small {n = pos (length (s ∷ l))} (omega arith))
 count_limited h (count_2 n s) = zero_limited
 count_limited h (count_3 n m) = nothing_known
+count_limited (one_limited _) (count_1 {s = s} {l = l} x10) = elim x10 [ ]
 
 sum_limited : {r : Value} {c : Clause} {v : Value} → Sum v c r → Limited r
 sum_limited (sum_1a s h i) = one_limited (integer_small i)
@@ -97,10 +108,12 @@ sum_limited (sum_3 n m) = nothing_known
 extreme_limited : {r : Value} {c : Clause} {e : Extreme} {v : Value} → Limited v → Extremal e v c r → Limited r
 extreme_limited (list_limited b h) (extremal_1 {i} is_sequence k n) = one_limited (element_small i h)
 extreme_limited h (extremal_2 n) = nothing_known
+extreme_limited {e = e} (one_limited {s = s} _) (extremal_1 {l = l} {i = i} x10 k n) = elim x10 [ ]
 
 nth_limited : {r : Value} {c : Clause} {v w : Value} → Limited w → Nth v w c r → Limited r
 nth_limited (list_limited b h) (nth_1 {i} is_sequence k q) = one_limited (element_small i h)
 nth_limited h (nth_2 n) = nothing_known
+nth_limited {v = v} (one_limited {s = s} _) (nth_1 {l = l} {i = i} x10 k q) = elim x10 [ ]
 
 is_in_limited : {τ : View} {T : ℕ} {s : TaskState} {r : Value} {c : Clause} {v : Value} → IsIn τ T s v c r → Limited r
 is_in_limited (is_in_1 h) = nothing_known

@@ -166,6 +166,7 @@ structure_kept (guideline h e xs) = task_kept h then series_kept top_kept xs
 each_fine : {ts : List Token} {i : ℕ} {t : Token} → Kept ts [] → At ts i t → Fine t
 each_fine (f & k) at_first = f
 each_fine (f & k) (at_later h) = each_fine k h
+each_fine {i = i} {t = t} no_more x4 = elim x4 [ ]
 
 -- no token of a structure is a word that is left out
 pub no_word_left_out : {ts : List Token} {g : List TopLevel} {i k : ℕ} {t : Token} → Structure ts g → At ts i t → Terminal t k → ¬ Memᴰ k left_out_words

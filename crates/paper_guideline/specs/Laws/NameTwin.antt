@@ -160,7 +160,7 @@ module _ (all : List Task) (marks : List Bool) where
   abbrev Newly : List Task → ℕ → Type 0
   Newly ts j = (t : Task) × At ts j t × (from_marked all marks t ≡ true)
 
-  round_out : {j : ℕ} {b : Bool} (ts : List Task) (xs : List Bool) → At (round_of all marks ts xs) j b → b ≡ true → At xs j true ⊎ Newly ts j
+  round_out : (ts : List Task) (xs : List Bool) {j : ℕ} {b : Bool} → At (round_of all marks ts xs) j b → b ≡ true → At xs j true ⊎ Newly ts j
   round_out [] xs h e = absurd (no_at h)
   round_out (t ∷ ts) [] at_first e = inr (t, at_first, e)
   round_out (t ∷ ts) [] (at_later {i = j} h) e = ⊎_elim

@@ -55,6 +55,7 @@ pub data Each {A : Type 0} (P : A → Type 0) : List A → Type 0 where
 pub each_at : {A : Type 0} {P : A → Type 0} {l : List A} {x : A} → Each P l → Memᴰ x l → P x
 each_at {P} (p & ps) (Memᴰ.head e) = subst P (sym e) p
 each_at (p & ps) (Memᴰ.tail m) = each_at ps m
+each_at {A = A} {P = P} all x6 = elim x6 [ ]
 
 all_infix : Each (λ (x : ℕ × ℕ × Op). infix_f x.1 ≡ some (x.0, x.2)) infixes
 unfolding infixes infix_f
