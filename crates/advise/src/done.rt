@@ -16,7 +16,7 @@ pub const PROPERTY: usize = 1;
 pub const NUMBER: usize = 3;
 
 // What is asked of a row: its property, its number, and what has it.
-#[derive(Drop)]
+#[derive(Clone, Copy)]
 pub struct Asked {
     pub property: u32,
     pub number: u32,

@@ -113,7 +113,7 @@ fn is_task(k: u8) -> bool
 }
 
 // How many tokens there are of each sort.
-#[derive(Drop)]
+#[derive(Clone, Copy)]
 pub struct Counts {
     pub items: usize,
     pub tasks: usize,

@@ -10,7 +10,7 @@ use terminals::Terminal;
 pub const NONE: u8 = 255;
 
 // The word of the attribute, so many brackets open, so many of them around all assignments.
-#[derive(Drop)]
+#[derive(Clone, Copy)]
 pub struct Within {
     pub word: u8,
     pub depth: usize,

@@ -5,7 +5,7 @@ ghost use Rattle.change_rows.specs.Numbers.{row_at, written, Appended, Taken};
 
 // A row that is asked for: its component, its property, and the tag and number of its new value.
 #[repr(C)]
-#[derive(Drop)]
+#[derive(Clone, Copy)]
 pub struct Row {
     pub component: u32,
     pub property: u32,
@@ -19,7 +19,7 @@ impl Row {
 }
 
 // The rows that a cycle asks for, as plain numbers: how many, and the numbers of each.
-#[derive(Drop)]
+#[derive(Clone, Copy)]
 pub struct Asked {
     pub n: usize,
     pub cells: [u32; Asked::NUMBERS],

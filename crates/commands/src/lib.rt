@@ -14,7 +14,7 @@ use times::Amount;
 use typed_value::lexemes::{after, skip, word_end};
 
 // A name is told by where it begins and ends, a value by where it begins.
-#[derive(Drop)]
+#[derive(Clone, Copy)]
 pub enum Command {
     // a blank line
     Nothing,

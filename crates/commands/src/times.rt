@@ -18,7 +18,7 @@ const DAY: u64 = 86_400;
 const WEEK: u64 = 604_800;
 
 // What time is measured in.
-#[derive(Drop)]
+#[derive(Clone, Copy)]
 enum Measure {
     Seconds,
     Minutes,

@@ -13,7 +13,7 @@ const DATA: usize = Terminal::DATA as usize;
 const COMPONENT: usize = Terminal::COMPONENT as usize;
 
 // What a name stands for.
-#[derive(Drop)]
+#[derive(Clone, Copy)]
 pub enum Sort {
     Task,
     Item,

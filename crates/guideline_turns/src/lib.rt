@@ -24,7 +24,7 @@ impl Mode {
 }
 
 // What a turn passed, and the row that it gives, if any.
-#[derive(Drop)]
+#[derive(Clone, Copy)]
 pub struct Passed {
     pub ok: bool,
     // the token behind it

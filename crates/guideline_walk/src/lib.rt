@@ -11,7 +11,7 @@ ghost use Rattle.guideline_walk.specs.Made.{Small, Writes, Walks};
 use guideline_turns::{Mode, Passed, step};
 
 // What the rows passed amount to.
-#[derive(Drop)]
+#[derive(Clone, Copy)]
 pub struct Totals {
     pub ok: bool,
     pub rows: usize,

@@ -11,7 +11,7 @@ use row_tests::cells::handle;
 use state::Plan;
 
 // What has such a name.
-#[derive(Drop)]
+#[derive(Clone, Copy)]
 pub enum Sort {
     Task,
     Item,

@@ -8,7 +8,7 @@ use terminals::Terminal;
 use words::Known;
 
 // A token. Its kind is its terminal, or one of the two kinds that are skipped.
-#[derive(Drop)]
+#[derive(Clone, Copy)]
 pub struct Token {
     pub kind: u8,
     pub start: usize,
@@ -95,7 +95,7 @@ fn kind(text: &[u8], at: usize, best: Best) -> u8
 }
 
 // A place in the text, and one past the last place where a comment can end.
-#[derive(Drop)]
+#[derive(Clone, Copy)]
 pub struct Cursor {
     pub at: usize,
     pub last: usize,

@@ -4,7 +4,7 @@ ghost use Rattle.paper_expressions.specs.Limits.{integer_limit, real_limit};
 ghost use Rattle.paper_expressions.specs.Values.{unit};
 
 // An integer, or a real as a whole number of thousandths.
-#[derive(Drop)]
+#[derive(Clone, Copy)]
 pub struct Num {
     pub z: i32,
 }
@@ -20,7 +20,7 @@ impl Num {
 }
 
 // A number on its way, with room for sums, products and quotients.
-#[derive(Drop)]
+#[derive(Clone, Copy)]
 pub struct Wide {
     pub z: i64,
 }

@@ -1,5 +1,5 @@
 // What comp answers: 1, -1, 0, unknown, or that no clause of it fits.
-#[derive(Drop)]
+#[derive(Clone, Copy)]
 pub enum Sign {
     Greater,
     Less,

@@ -16,7 +16,7 @@ pub enum Comparison {
     NotEqual,
 }
 
-#[derive(Drop)]
+#[derive(Clone, Copy)]
 pub enum Extreme {
     Max,
     Min,

@@ -8,7 +8,7 @@ use guideline_rows::Kind;
 use row_tests::cells::ROWS;
 use row_tests::kinds::is_task;
 
-#[derive(Drop)]
+#[derive(Clone, Copy)]
 pub struct Spot {
     pub tasks: usize,
     pub items: usize,

@@ -10,7 +10,7 @@ use state::{Answer, Tag, Truth};
 use values::{Scalar, Value};
 
 // By the numbers of document 01; a component by its kind and its number.
-#[derive(Drop)]
+#[derive(Clone, Copy)]
 pub enum Shown {
     NoRow,
     There,

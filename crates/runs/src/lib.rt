@@ -9,7 +9,7 @@ use limits::{Refusal, WaitTable};
 use running::Turn;
 
 // How a run ended, with the number of cycles that it enacted; or the number of its refusal.
-#[derive(Drop)]
+#[derive(Clone, Copy)]
 pub enum Ran {
     Quiet(u32),
     Bounded(u32),

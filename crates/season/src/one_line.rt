@@ -17,7 +17,7 @@ use separated::field;
 use state::{Plan, cell};
 
 // What is the same for all lines: the number of columns, the separator, whether actions are confirmed.
-#[derive(Drop)]
+#[derive(Clone, Copy)]
 pub struct Season {
     pub many: usize,
     pub separator: u8,

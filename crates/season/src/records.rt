@@ -12,7 +12,7 @@ use limits::WaitTable;
 use separated::{Fault, Scan};
 
 // How far it is: in reading, in the buffer before standard output, and in lines of the sheet and of the answer.
-#[derive(Drop)]
+#[derive(Clone, Copy)]
 pub struct Work {
     pub scan: Scan,
     pub o: usize,

@@ -24,7 +24,7 @@ pub enum Kind {
 
 // Where in a record the reader stands: before a field, in one without quotes, between quotes, behind a quote that closes the field or is the
 // first of two, behind a carriage return that a newline has to follow, or in a line that is no record.
-#[derive(Drop)]
+#[derive(Clone, Copy)]
 pub enum Mode {
     Before,
     Bare,

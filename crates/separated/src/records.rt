@@ -33,7 +33,7 @@ impl Fault {
 
 // How far reading has come: in the record (bytes kept, fields ended, whether it began, whether it ended, what is wrong with it and in which
 // field), and in the input (lines that ended).
-#[derive(Drop)]
+#[derive(Clone, Copy)]
 pub struct Scan {
     pub mode: Mode,
     pub n: usize,

@@ -4,7 +4,7 @@ ghost use Rattle.spot.specs.Lines.{Column};
 ghost use Rattle.spot.specs.Seen.{countable, high_at, Describes};
 
 // What is known of the bytes so far.
-#[derive(Drop)]
+#[derive(Clone, Copy)]
 pub struct Seen {
     // how many there are
     pub total: usize,

@@ -23,7 +23,7 @@ pub enum Found {
 }
 
 // The tests on one token: whether it names something left out, whether it is past a limit.
-#[derive(Drop)]
+#[derive(Clone, Copy)]
 enum Test {
     Edition,
     Size,

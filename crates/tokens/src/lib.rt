@@ -121,7 +121,7 @@ fn put(
 }
 
 // Where the reader stopped, how many tokens it has, and how the brackets stand.
-#[derive(Drop)]
+#[derive(Clone, Copy)]
 pub struct Stop {
     pub at: usize,
     pub n: usize,

@@ -13,7 +13,7 @@ use row_tests::kinds::is_task;
 pub const NONE: usize = Rows::CELLS / Row::CELLS;
 
 // What may have a caption.
-#[derive(Drop)]
+#[derive(Clone, Copy)]
 pub enum Owner {
     Task,
     Item,

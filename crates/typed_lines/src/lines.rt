@@ -13,7 +13,7 @@ impl Line {
 }
 
 // What the buffer holds: so many bytes; whether the line that they begin is too long, its beginning being lost; whether the input has ended.
-#[derive(Drop)]
+#[derive(Clone, Copy)]
 pub struct Held {
     pub bytes: usize,
     pub long: bool,

@@ -3,7 +3,7 @@ ghost use Rattle.std.specs.Prelude.{◌≡◌};
 ghost use Rattle.typed_value.specs.Lexemes.{fine};
 
 // What is wrong.
-#[derive(Drop)]
+#[derive(Clone, Copy)]
 pub enum Slip {
     // nothing
     Fine,

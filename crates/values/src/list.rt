@@ -5,13 +5,13 @@ ghost use Rattle.values.specs.Meaning.{at, size_of, Stored, Pushed};
 
 use crate::scalar::Scalar;
 
-#[derive(Drop)]
+#[derive(Clone, Copy)]
 pub struct Cell {
     pub s: Scalar,
 }
 
 // The first n of the items; the rest count for nothing.
-#[derive(Drop)]
+#[derive(Clone, Copy)]
 pub struct List {
     pub n: usize,
     pub items: [Cell; List::LIST_LIMIT],

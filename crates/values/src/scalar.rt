@@ -5,7 +5,7 @@ ghost use Rattle.values.specs.Meaning.{integer_of, real_of_fn, unknownb};
 use crate::text::Handle;
 use numbers::{Num, Wide};
 
-#[derive(Drop)]
+#[derive(Clone, Copy)]
 pub enum Scalar {
     Unknown,
     Truth(bool),

@@ -11,7 +11,7 @@ use parts::HANDLE;
 use parts::names::letter;
 
 // Where a text stands among the lent bytes.
-#[derive(Drop)]
+#[derive(Clone, Copy)]
 pub struct Handle {
     pub at: usize,
     pub len: usize,

@@ -5,7 +5,7 @@ ghost use Rattle.values.specs.Meaning.{scalar_of};
 use crate::list::List;
 use crate::scalar::Scalar;
 
-#[derive(Drop)]
+#[derive(Clone, Copy)]
 pub struct Value {
     pub many: bool,
     pub one: Scalar,

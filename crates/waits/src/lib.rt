@@ -41,7 +41,7 @@ pub fn ended(s: &[u32], t: usize) -> bool
 }
 
 // Of the tasks that a task waits for: whether there is one, whether all are over, one is completed, all are discarded.
-#[derive(Drop)]
+#[derive(Clone, Copy)]
 pub struct Before {
     pub any: bool,
     pub over: bool,

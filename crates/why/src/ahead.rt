@@ -11,7 +11,7 @@ const TIME: usize = 2;
 
 // Of every task: whether its precondition and its wait_condition, if there, are true, and its terminate expression is there and true;
 // whether its plan terminates, and which of the four conditions of the review hold.
-#[derive(Drop)]
+#[derive(Clone, Copy)]
 pub struct Review {
     pub pre: Marks,
     pub wait: Marks,

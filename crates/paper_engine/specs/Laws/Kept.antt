@@ -95,6 +95,17 @@ class_instantiated (task_2 h) = (h.definition, h.instantiated)
 -- of the rows that move, load adds the state alone
 added_moving : {g : List TopLevel} {c : Component} {p : Property} {r : RowValue} → Moving c p → Adds g c p r → (There g c) × (Allowed p r)
 added_moving state_moves (task_3 h) = (task_there (defined h), allowed_state)
+added_moving {g = g} {r = r} (trigger_moves {T = T}) x4 = elim x4 [ ]
+added_moving {g = g} {r = r} (confirmed_moves {T = T}) x5 = elim x5 [ ]
+added_moving {g = g} {r = r} (count_moves {T = T}) x6 = elim x6 [ ]
+added_moving {g = g} {r = r} (cycles_move {T = T}) x7 = elim x7 [ ]
+added_moving {g = g} {r = r} (start_moves {T = T}) x8 = elim x8 [ ]
+added_moving {g = g} {r = r} (in_progress_moves {T = T}) x9 = elim x9 [ ]
+added_moving {g = g} {r = r} (discarded_moves {T = T}) x10 = elim x10 [ ]
+added_moving {g = g} {r = r} (completed_moves {T = T}) x11 = elim x11 [ ]
+added_moving {g = g} {r = r} (procedure_moves {T = T}) x12 = elim x12 [ ]
+added_moving {g = g} {r = r} (value_moves {d = d}) x13 = elim x13 [ ]
+added_moving {g = g} {r = r} (requested_moves {d = d}) x14 = elim x14 [ ]
 
 no_time : {g : List TopLevel} {T r : ℕ} → ¬ Adds g (task № T) start_at (time_is r)
 no_time h = elim h [ ]

@@ -51,6 +51,7 @@ antecedent_in : {g : List TopLevel} {p i : ℕ} {l : List (Placed ComponentAttri
 antecedent_in (antecedents_more {c = A} i e h) at_first = (A, refl, component_task i)
 antecedent_in (antecedents_more i e h) (at_later q) = antecedent_in h q
 antecedent_in (antecedents_other h) q = antecedent_in h q
+antecedent_in {g = g} {p = p} {i = i} {c = c} antecedents_none q = elim q [ ]
 
 pub antecedent_task : {g : List TopLevel} {t : Table} {T i : ℕ} {l : List Component} {c : Component} → Kept g t → Contains t (task № T) antecedent_tasks (components_are l) → At l i c → (A : ℕ) × (c ≡ task № A) × TaskId t A
 antecedent_task {g} {t} {T} kept h q = go (adds kept (λ x. elim x [ ]) h) q
@@ -138,6 +139,7 @@ task_moves (at_later (at_later (at_later (at_later (at_later (at_later at_first)
 task_moves (at_later (at_later (at_later (at_later (at_later (at_later (at_later at_first))))))) = discarded_moves
 task_moves (at_later (at_later (at_later (at_later (at_later (at_later (at_later (at_later at_first)))))))) = completed_moves
 task_moves (at_later (at_later (at_later (at_later (at_later (at_later (at_later (at_later (at_later at_first))))))))) = procedure_moves
+task_moves {T = T} {p = p} (at_later (at_later (at_later (at_later (at_later (at_later (at_later (at_later (at_later (at_later {i = i} x70)))))))))) = elim x70 [ ]
 
 moves_task : {T : ℕ} {p : Property} → Moving (task № T) p → (i : ℕ) × At task_moving i p
 moves_task state_moves = (0, at_first)
@@ -154,6 +156,7 @@ moves_task procedure_moves = (9, at_later (at_later (at_later (at_later (at_late
 item_moves : {d i : ℕ} {p : Property} → At item_moving i p → Moving (data_item № d) p
 item_moves at_first = value_moves
 item_moves (at_later at_first) = requested_moves
+item_moves {d = d} {p = p} (at_later (at_later {i = i} x14)) = elim x14 [ ]
 
 moves_item : {d : ℕ} {p : Property} → Moving (data_item № d) p → (i : ℕ) × At item_moving i p
 moves_item value_moves = (0, at_first)

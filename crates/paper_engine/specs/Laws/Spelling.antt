@@ -102,10 +102,12 @@ sum_spelt (sum_3 n m) = nothing
 extreme_spelt : {r : Value} {c : Clause} {e : Extreme} {v : Value} → WellSpelt v → Extremal e v c r → WellSpelt r
 extreme_spelt (list_spelt h) (extremal_1 {i} is_sequence k n) = one_spelt (element_spelt i h)
 extreme_spelt h (extremal_2 n) = nothing
+extreme_spelt {e = e} (one_spelt {s = s} _) (extremal_1 {l = l} {i = i} x10 k n) = elim x10 [ ]
 
 nth_spelt : {r : Value} {c : Clause} {v w : Value} → WellSpelt w → Nth v w c r → WellSpelt r
 nth_spelt (list_spelt h) (nth_1 {i} is_sequence k q) = one_spelt (element_spelt i h)
 nth_spelt h (nth_2 n) = nothing
+nth_spelt {v = v} (one_spelt {s = s} _) (nth_1 {l = l} {i = i} x10 k q) = elim x10 [ ]
 
 is_in_spelt : {τ : View} {T : ℕ} {s : TaskState} {r : Value} {c : Clause} {v : Value} → IsIn τ T s v c r → WellSpelt r
 is_in_spelt (is_in_1 h) = nothing
