@@ -1,4 +1,6 @@
 // 8.3.6, AddDataValue.
+#![tactic(auto)]
+
 ghost use Rattle.std.specs.Prelude.{◌<◌};
 ghost use Rattle.adding.specs.Put.{Put, Stores};
 ghost use Rattle.adding.specs.Add.{Adds};

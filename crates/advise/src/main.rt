@@ -1,4 +1,6 @@
 // Runs a guideline with a person, who types a line and is told what came of it. The guideline comes on the file descriptor 3.
+#![tactic(auto)]
+
 mod answer;
 mod assigned;
 mod confirms;

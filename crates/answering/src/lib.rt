@@ -1,4 +1,6 @@
 // Load's answer: a guideline's bytes to its rows, parts and texts, or number and place of its refusal, by all stages.
+#![tactic(auto)]
+
 mod verdict;
 
 ghost use Rattle.parts.specs.Part.{table};

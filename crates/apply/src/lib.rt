@@ -1,5 +1,7 @@
 // An operator of section 11, known by its number in the part table, applied to the values of its operands.
 // Nothing is asked of the tables: on any contents each function ends and does nothing undefined.
+#![tactic(auto)]
+
 mod one;
 mod states;
 mod two;

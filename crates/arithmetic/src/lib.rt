@@ -1,4 +1,6 @@
 // "+", "-", "*", "/" and unary minus, on values.
+#![tactic(auto)]
+
 mod calculation;
 
 pub use calculation::{arithmetic, divide, negate};

@@ -1,4 +1,6 @@
 // Words on standard error: what is told beside an answer.
+#![tactic(auto)]
+
 use libc::STDERR_FILENO;
 use parts::names::at;
 use spot::show::shown;

@@ -1,4 +1,6 @@
 // What an enquiry in progress waits for: the data items of its mandatory sources, as long as they are requested.
+#![tactic(auto)]
+
 ghost use Rattle.std.specs.Prelude.{◌≡◌, ◌<◌};
 ghost use Rattle.asked.specs.Asked as asked;
 

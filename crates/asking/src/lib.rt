@@ -1,4 +1,6 @@
 // 8.3.2, 2: what one cycle asks for, from the tables alone.
+#![tactic(auto)]
+
 ghost use Rattle.std.specs.Prelude.{◌≡◌};
 ghost use Rattle.asking.specs.Asks.{AskedFor};
 

@@ -1,5 +1,7 @@
 // New values of data items: gathered in a scratch while the old ones are still read, then written all at once.
 // Of each item the scratch has a slot of cells (a mark, tags, numbers) and the bytes of its texts.
+#![tactic(auto)]
+
 ghost use Rattle.std.specs.Prelude.{◌≡◌, ◌↔◌, true, ◌+◌, ◌*◌, ◌<◌, get_or};
 ghost use Rattle.blocks.specs.Blocks.{Same};
 ghost use Rattle.assigning.specs.Gather.{Keeps, Gathers};

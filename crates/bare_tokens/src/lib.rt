@@ -1,4 +1,6 @@
 // The tokens that are names: of data items, of tasks, and bare in expressions, which are atoms without quotes, no functors and not assigned to.
+#![tactic(auto)]
+
 mod within;
 
 ghost use Rattle.std.specs.Prelude.{◌≡◌};

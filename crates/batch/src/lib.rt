@@ -1,4 +1,6 @@
 // A batch of texts on standard input, each as its length in four bytes, big-endian, and its bytes; for comparison with the second program.
+#![tactic(auto)]
+
 ghost use Rattle.std.specs.Prelude.{◌≡◌, false, ◌<◌, length};
 ghost use Rattle.batch.specs.Held.{Held};
 

@@ -1,4 +1,6 @@
 // Lent cells, set to zero.
+#![tactic(auto)]
+
 ghost use Rattle.std.specs.Prelude.{◌≡◌, length, replicate};
 
 pub fn clear(cells: &mut [u32])

@@ -1,4 +1,6 @@
 // Blocks of cells and of bytes: written, copied, compared. What stands past the end of a slice reads as 0 and is not written.
+#![tactic(auto)]
+
 ghost use Rattle.std.specs.Prelude.{◌≡◌, ◌+◌, ◌≤◌, get_or, set};
 ghost use Rattle.parts.specs.Texts.{cells as cells_of};
 ghost use Rattle.blocks.specs.Blocks.{Copied, Compares};

@@ -1,4 +1,6 @@
 // The Changes table as a list of rows that is lent: a slice of structs. Rows are appended, taken back and cleared here; what they mean is settled over plain numbers.
+#![tactic(auto)]
+
 ghost use Rattle.std.specs.Prelude.{◌≡◌, ℕ, ◌+◌, ◌<◌, ◌≤◌, ◌*◌, length, get_or, set, replicate};
 ghost use Rattle.change_rows.specs.Blank.{blank, Blanked};
 ghost use Rattle.change_rows.specs.Numbers.{row_at, written, Appended, Taken};

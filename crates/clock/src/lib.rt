@@ -1,4 +1,6 @@
 // 8.3.3, SetEngineTime.
+#![tactic(auto)]
+
 ghost use Rattle.clock.specs.Time.{SetsTime};
 
 use limits::Refusal;

@@ -1,4 +1,6 @@
 // What a line that is typed asks for. Places are those of the line, which has no newline.
+#![tactic(auto)]
+
 mod keywords;
 mod names;
 mod times;

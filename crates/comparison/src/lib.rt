@@ -1,4 +1,6 @@
 // comp, which compares any two values, and the six comparisons.
+#![tactic(auto)]
+
 mod comparing;
 mod relation;
 

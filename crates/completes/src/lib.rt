@@ -1,4 +1,6 @@
 // 8.6.4: which tasks are completed.
+#![tactic(auto)]
+
 ghost use Rattle.std.specs.Prelude.{◌≡◌, Bool, ◌&&◌, ◌||◌, not, ℕ, ◌+◌, ◌<◌};
 ghost use Rattle.waits.specs.Twins.{marked};
 ghost use Rattle.waits.specs.Booleans.{all_f};

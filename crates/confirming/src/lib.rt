@@ -1,4 +1,6 @@
 // 8.3.4, ConfirmTask.
+#![tactic(auto)]
+
 ghost use Rattle.confirming.specs.Confirm.{Confirms};
 
 use limits::{Refusal, Tasks};

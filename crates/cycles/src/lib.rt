@@ -1,4 +1,6 @@
 // 8.4, EnactChanges: every row of the Changes table at once. New values are worked out before the state is written.
+#![tactic(auto)]
+
 ghost use Rattle.std.specs.Prelude.{◌≡◌};
 ghost use Rattle.holding.specs.Elsewhere.{Elsewhere};
 ghost use Rattle.cycles.specs.Cycled.{Flags, Cycled};

@@ -1,4 +1,6 @@
 // 8.6.7, CycleConditions.
+#![tactic(auto)]
+
 ghost use Rattle.std.specs.Prelude.{◌≡◌};
 ghost use Rattle.cycling.specs.Cycling.{Cycling};
 

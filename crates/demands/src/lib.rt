@@ -1,1 +1,3 @@
 // The three demands, of tables that public calls leave: see specs/.
+
+#![tactic(auto)]

@@ -1,4 +1,6 @@
 // Bytes and numbers in decimal digits, appended to a lent buffer. Each function answers the place behind what it wrote.
+#![tactic(auto)]
+
 mod append;
 mod decimal;
 mod signed;

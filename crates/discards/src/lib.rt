@@ -1,4 +1,6 @@
 // 8.6.8 and 8.6.3: which plans terminate, and which tasks are discarded.
+#![tactic(auto)]
+
 ghost use Rattle.std.specs.Prelude.{◌≡◌, Bool, ◌&&◌, ◌||◌, not, ◌-◌, eqb};
 ghost use Rattle.waits.specs.Twins.{marked};
 ghost use Rattle.marks.specs.Raise.{Below};

@@ -1,4 +1,6 @@
 // How a run ended, as a number: document 01's endings, named once for the engine, the calls and what tells of them.
+#![tactic(auto)]
+
 #[derive(Drop)]
 pub struct Ending {}
 

@@ -1,6 +1,8 @@
 // The evaluator: the value of the expression that the part table holds up to a place, by sections 9 and 11.
 // The values of the data items and the states of the tasks are lent, as slices of numbers.
 // Nothing is asked of the tables: on any contents the evaluator ends and does nothing undefined.
+#![tactic(auto)]
+
 mod items;
 mod leaves;
 mod operands;

@@ -1,4 +1,6 @@
 // Examines the texts of a batch: writes for each the line that examine writes first. For comparison with the second program.
+#![tactic(auto)]
+
 use answering::Verdict;
 use batch::Next;
 use libc::STDOUT_FILENO;

@@ -1,5 +1,7 @@
 // What C and Rust link: the public calls over slices of numbers. Who waits for whom is 1,024 bytes, 1 for a mark.
 // The names begin with the library's, since a program has one space of names for all that it links.
+#![tactic(auto)]
+
 ghost use Rattle.std.specs.Prelude.{◌≡◌};
 ghost use Rattle.square.specs.Square.{square_of};
 ghost use Rattle.replying.specs.Replying.{published};

@@ -1,5 +1,7 @@
 // The expression reader: from the tokens of an expression to its rows of parts, in postfix order, and its measures; in one pass.
 // The expression reader and the list reader call each other, at brackets only, with a depth that falls.
+#![tactic(auto)]
+
 mod single;
 
 ghost use Rattle.std.specs.Prelude.{◌≡◌, ◌≤◌};

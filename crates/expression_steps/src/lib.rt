@@ -1,5 +1,7 @@
 // The steps of the expression reader: the next token's terminal and level, and writing the rows of parts.
 // A row is the kind, the number of operands, the size and the load of a part. What has no room is counted and not written.
+#![tactic(auto)]
+
 pub mod operators;
 
 ghost use Rattle.std.specs.Prelude.{◌≡◌, true, false, ◌+◌, ◌≤◌, ◌<◌};

@@ -1,5 +1,7 @@
 // A field of a sheet, to cells and bytes as adding a value takes them, by the declared type of its data item. Nothing is guessed: a field that
 // is no value of that type is refused.
+#![tactic(auto)]
+
 ghost use Rattle.std.specs.Prelude.{◌≡◌, true, false};
 ghost use Rattle.field_values.specs.Reading as reading;
 ghost use Rattle.field_values.specs.Reading.{field_by, field_as, FieldRead};

@@ -1,4 +1,6 @@
 // 8.5.11: the values that the rows of the Changes table ask for, worked out against the old state and gathered in a scratch.
+#![tactic(auto)]
+
 ghost use Rattle.std.specs.Prelude.{◌≡◌, ◌<◌, ◌≤◌};
 ghost use Rattle.gathering.specs.Rows.{TakesRow};
 ghost use Rattle.gathering.specs.Gathered.{Gathered};

@@ -1,4 +1,6 @@
 // What a caller gives: whether it is within the limits.
+#![tactic(auto)]
+
 ghost use Rattle.paper_calls.specs.Calls.{SmallText};
 ghost use Rattle.parts.specs.Texts.{cells as cells_of};
 ghost use Rattle.waits.specs.Booleans.{Tests};

@@ -1,5 +1,7 @@
 // A machine over a guideline's tokens: accepts exactly the sentences of the print, or answers the first token that no sentence can have there.
 // It goes by one token at a time, with a stack of the symbols that are still to come; the stack grows down from the array's end.
+#![tactic(auto)]
+
 ghost use Rattle.std.specs.Prelude.{◌≡◌, map, ◌++◌, ◌+◌, ◌≤◌, ◌<◌, length, drop};
 ghost use Rattle.std.proofs.Math.Seq.{slice};
 ghost use Rattle.paper_grammar.specs.Laws.Ll.{Sym, blank};

@@ -1,4 +1,6 @@
 // What single tokens of a line say: the name that an atom is, yes or no, and the name of a type.
+#![tactic(auto)]
+
 mod row;
 
 ghost use Rattle.std.specs.Prelude.{◌≡◌, ◌+◌, ◌≤◌, length, get_or};

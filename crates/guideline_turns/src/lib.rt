@@ -1,4 +1,6 @@
 // The tokens of a guideline, taken in turns. What a turn passes, its first token tells; and it gives a row or none.
+#![tactic(auto)]
+
 mod lines;
 
 ghost use Rattle.std.specs.Prelude.{◌≡◌, true, false, ◌≤◌};

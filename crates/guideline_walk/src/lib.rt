@@ -1,5 +1,7 @@
 // One walk over the tokens of a guideline: the rows of its structure, their expressions in the part table, their names and texts
 // in the text bytes, and what they amount to. A row, a part or a text for which there is no room is counted and not written.
+#![tactic(auto)]
+
 mod adding;
 mod table;
 mod texts;

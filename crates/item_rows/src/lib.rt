@@ -1,4 +1,6 @@
 // The rows of a data item, as the plan and the state tell them.
+#![tactic(auto)]
+
 ghost use Rattle.std.specs.Prelude.{◌≡◌, ◌+◌, ◌*◌, ◌<◌, eqb, get_or};
 ghost use Rattle.item_rows.specs.ItemValue.{CellsShow, ValueRow};
 ghost use Rattle.item_rows.specs.ItemRow.{ItemRow};

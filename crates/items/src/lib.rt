@@ -1,4 +1,6 @@
 // The value of a data item in its one form: 17 tags, 17 numbers, and 48 bytes for the text of each of 16 elements.
+#![tactic(auto)]
+
 ghost use Rattle.std.specs.Prelude.{◌≡◌, ◌≤◌, ◌<◌, nat_abs};
 ghost use Rattle.paper_expressions.specs.Limits.{real_limit};
 ghost use Rattle.parts.specs.Texts.{handle as handle_of, moved as movedOf};

@@ -1,5 +1,7 @@
 // Tasks, data items and triggers by a name that is typed: which one it is; or that nothing has it, and the nearest that there is.
 // Capital letters make no difference, as in expressions.
+#![tactic(auto)]
+
 mod lookup;
 mod missing;
 mod nearness;

@@ -1,4 +1,6 @@
 // What one token says: the part that an atom, a number or a string is, and what a functor name means.
+#![tactic(auto)]
+
 pub mod literals;
 pub mod names;
 

@@ -1,4 +1,6 @@
 // One token: the reader stands at a place, and hands on the token there with its next place.
+#![tactic(auto)]
+
 ghost use Rattle.std.specs.Prelude.{◌≡◌, ◌+◌, ◌≤◌, ◌<◌, length, get_or};
 ghost use Rattle.matches.specs.Walk.{Settled, Marks};
 ghost use Rattle.lexer.specs.Answer.{atom_kind, word_kind, Worded, Named, AtomIs, Tells, Answer};

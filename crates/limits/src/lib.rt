@@ -1,6 +1,8 @@
 // Every limit of reading and of the engine, named once, on the type that it limits; and tied once, by the function beside it, to the definitions.
 // The limits of values stand on the types of values: integers and reals on numbers::Num, texts on values::Handle, lists on values::List.
 // The numbers of the refusals stand in refusal.rt.
+#![tactic(auto)]
+
 mod refusal;
 
 ghost use Rattle.std.specs.Prelude.{◌≡◌, ◌*◌};

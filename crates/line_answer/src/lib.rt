@@ -1,5 +1,7 @@
 // The small program's answer to one line: the bytes that it writes behind the line's number.
 // First the tests, stage by stage; then the type and the value.
+#![tactic(auto)]
+
 mod tests;
 mod valued;
 

@@ -1,4 +1,6 @@
 // The input of the small program, line by line: as it comes in chunks, the bytes of a line are gathered in a lent buffer, up to its newline.
+#![tactic(auto)]
+
 ghost use Rattle.std.specs.Prelude.{◌≡◌, ℕ, ◌≤◌, length};
 ghost use Rattle.lines.specs.Kept.{kept_limit, Keeps, Takes};
 

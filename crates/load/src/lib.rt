@@ -1,4 +1,6 @@
 // Load: a guideline's bytes to the tables that every other call is given, or number and place of its refusal.
+#![tactic(auto)]
+
 ghost use Rattle.std.specs.Prelude.{◌≡◌, length};
 ghost use Rattle.parts.specs.Part.{table};
 ghost use Rattle.load.specs.Loads.{few, lent, Emptied, Prepared, Turned, Replied};

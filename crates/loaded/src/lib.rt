@@ -1,1 +1,3 @@
 // What load leaves holds the published state: see specs/.
+
+#![tactic(auto)]

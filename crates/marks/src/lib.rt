@@ -1,4 +1,6 @@
 // Marks of tasks that their children raise.
+#![tactic(auto)]
+
 ghost use Rattle.std.specs.Prelude.{◌≡◌, ◌&&◌, ◌||◌, ℕ, ◌+◌, ◌<◌, eqb};
 ghost use Rattle.waits.specs.Twins.{marked};
 

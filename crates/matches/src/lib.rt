@@ -1,5 +1,7 @@
 // The longest match at a place: seven rules go over the bytes in step. Rule 0 is the reserved symbols, rules 1 to 6 the rules of
 // section 2 from the atom on, in their order. A reserved word of letters is an atom here: which atom it is comes after the walk.
+#![tactic(auto)]
+
 ghost use Rattle.std.specs.Prelude.{◌≡◌, true, ℕ, ◌+◌, ◌≤◌, ◌<◌, length};
 ghost use Rattle.matches.specs.Kinds.{fine_of};
 ghost use Rattle.matches.specs.Machine.{accepts as acceptsOf, next_of, acc_of, Takes};

@@ -1,5 +1,7 @@
 // Refusal 4: the smallest place at which a row breaks a rule on names.
 // Nothing is asked of the tables: on any contents it ends and does nothing undefined.
+#![tactic(auto)]
+
 pub mod flaws;
 mod walk;
 

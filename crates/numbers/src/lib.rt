@@ -1,4 +1,6 @@
 // Numbers as the engine holds them, their arithmetic and their order.
+#![tactic(auto)]
+
 mod arithmetic;
 mod number;
 mod sign;

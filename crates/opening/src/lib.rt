@@ -1,4 +1,6 @@
 // The state table that an accepted load leaves: every task is dormant, no data item has a value, the engine time is 0.
+#![tactic(auto)]
+
 ghost use Rattle.std.specs.Prelude.{◌≤◌, length};
 ghost use Rattle.opening.specs.Opened.{Marks, Opens};
 

@@ -1,4 +1,6 @@
 // 8.5.1, 8.5.2, 8.5.4 and 8.5.5: the rows that the review of a task adds to the Changes table.
+#![tactic(auto)]
+
 ghost use Rattle.std.specs.Prelude.{◌≡◌, ◌+◌, ◌≤◌, ◌<◌, get_or};
 ghost use Rattle.operations.specs.Rows.{InitialiseRows, DiscardRows, AssignRow, AssignRows, CompleteRows};
 ghost use Rattle.operations.specs.Review.{ReviewRows};

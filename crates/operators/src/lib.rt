@@ -1,4 +1,6 @@
 // What it is to be an operator of section 11, and those on truth values.
+#![tactic(auto)]
+
 mod operator;
 mod truth;
 

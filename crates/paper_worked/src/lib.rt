@@ -1,1 +1,3 @@
 // Worked guidelines, from their texts to the rows after every cycle: see specs/.
+
+#![tactic(auto)]

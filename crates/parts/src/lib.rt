@@ -1,5 +1,7 @@
 // The part table: expressions in postfix order, a row of four cells for each part: its code, its number of operands, its size
 // and what it loads. Reads are guarded: what stands past the end of a slice reads as 0. The table's laws are in specs/.
+#![tactic(auto)]
+
 mod codes;
 pub mod names;
 

@@ -1,4 +1,6 @@
 // One of several constant texts, which stand in one string with a bar between each two.
+#![tactic(auto)]
+
 ghost use Rattle.std.specs.Prelude.{◌≤◌, length};
 
 const BAR: u8 = b'|';

@@ -1,4 +1,6 @@
 // What a row writes to the plan, by its kind. Nothing is asked of the tables: on any contents it ends and does nothing undefined.
+#![tactic(auto)]
+
 ghost use Rattle.std.specs.Prelude.{◌≡◌, cond, eqb};
 ghost use Rattle.row_tests.specs.Table.{cell_of};
 ghost use Rattle.plan.specs.Writes.{a_task, a_data_item, a_trigger, a_terminal, a_source, a_mandatory, an_assignment, answer};

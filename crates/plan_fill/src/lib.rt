@@ -1,5 +1,7 @@
 // What load works out of the rows of a guideline for the engine: the cells of the plan, and who waits for whom.
 // Nothing is asked of the tables: on any contents it ends and does nothing undefined.
+#![tactic(auto)]
+
 mod columns;
 mod order;
 mod waiting;

@@ -1,5 +1,7 @@
 // The names and texts of an expression, gathered in the text bytes: a part table that the reader has filled leads into the
 // guideline's own text, and afterwards holds the same expression over the text bytes.
+#![tactic(auto)]
+
 ghost use Rattle.std.specs.Prelude.{◌≡◌, length, ◌+◌, ◌≤◌};
 ghost use Rattle.parts.specs.Texts.{cells as cells_of};
 ghost use Rattle.pool.specs.Written.{Written};

@@ -1,4 +1,6 @@
 // The whole of reading: a guideline's bytes to its tables, or number and place of its refusal by 1, 2, 3, 10 or 6.
+#![tactic(auto)]
+
 ghost use Rattle.parts.specs.Part.{table};
 ghost use Rattle.reading.specs.Reply.{Answered, Begun, Structured};
 

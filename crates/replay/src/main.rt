@@ -1,4 +1,6 @@
 // Replays the scripts of a batch (docs/REPLAY.md): reads them from standard input and writes the answers of the public calls.
+#![tactic(auto)]
+
 mod calls;
 mod listing;
 mod scripts;

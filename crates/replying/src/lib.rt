@@ -1,4 +1,6 @@
 // How a call answers: what it may reply, and what its contract says of the tables lent to it: see specs/.
+#![tactic(auto)]
+
 ghost use Rattle.std.specs.Prelude.{◌≡◌, ◌<◌};
 ghost use Rattle.replying.specs.Ready.{ready_f, loaded_f};
 ghost use Rattle.replying.specs.Trues.{put_true};

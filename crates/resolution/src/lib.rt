@@ -1,5 +1,7 @@
 // The choice among an operator's allowed types: 4.1, rule 10, with the promotions of 4.2.
 // An allowed type is four letters: up to three operands, blanks after them, and the result.
+#![tactic(auto)]
+
 ghost use Rattle.std.specs.Prelude.{◌≡◌, [], ◌∷◌, ◌+◌, ◌<◌, get_or, length};
 ghost use Rattle.resolution.specs.Resolution.{promotes_of, set_of, meets_of, all_meet, first_of, resolve_of};
 ghost use Rattle.resolution.specs.Allowed.{function_of, list_of};

@@ -1,4 +1,6 @@
 // 8.3.2, 2: the review of all tasks against one table, and the rows of the Changes table that it leaves.
+#![tactic(auto)]
+
 ghost use Rattle.std.specs.Prelude.{◌≡◌, ◌≤◌, get_or};
 ghost use Rattle.review.specs.Changes.{EachRows, Few, Reviews};
 

@@ -1,4 +1,6 @@
 // What reading a row answers, as numbers, cells and bytes: for other languages.
+#![tactic(auto)]
+
 ghost use Rattle.std.specs.Prelude.{◌≡◌};
 ghost use Rattle.paper_calls.specs.Numbers.{state_number, class_number, type_number};
 ghost use Rattle.state.specs.Cell.{state_of};

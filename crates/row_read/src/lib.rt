@@ -1,4 +1,6 @@
 // Reading a row of the Properties table, by kind, number and property.
+#![tactic(auto)]
+
 ghost use Rattle.std.specs.Prelude.{◌≡◌, ◌-◌};
 ghost use Rattle.paper_rows.specs.Table.{task, data_item, source};
 ghost use Rattle.planned.specs.Planned.{sources_in};

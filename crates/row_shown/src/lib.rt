@@ -1,4 +1,6 @@
 // What reading a row answers, and the rows that two cells tell: those that move, and those that are yes or no.
+#![tactic(auto)]
+
 mod ranks;
 
 ghost use Rattle.row_shown.specs.Shown.{Plain, OfScalar, NameOf};

@@ -1,5 +1,7 @@
 // 8.3.2, RunEngine, with document 01's bound, turn by turn: review all; quiet, bounded, or enact and count; an exception stops.
 // The rows that are asked for are numbers here; who runs the turns puts them into the lent Changes table and takes them back.
+#![tactic(auto)]
+
 ghost use Rattle.std.specs.Prelude.{◌≡◌, false, ◌+◌, ◌<◌, ◌≤◌};
 ghost use Rattle.running.specs.Run.{AskedNow, Turned, made, Decided, Nexts};
 

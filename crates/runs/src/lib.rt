@@ -1,4 +1,6 @@
 // 8.3.2, RunEngine, as a call: document 01's tests in their order, and then the run, turn by turn over the lent Changes table.
+#![tactic(auto)]
+
 ghost use Rattle.std.specs.Prelude.{◌≡◌, false};
 ghost use Rattle.runs.specs.Run.{reported, published, Runs, RunsAlone};
 ghost use Rattle.runs.specs.Claims.{Claims};

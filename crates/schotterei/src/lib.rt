@@ -2,6 +2,8 @@
 // No call asks anything of its arguments: whatever the tables hold, it is safe, and ends. Each stands with its contract in the crate that it comes
 // from, and docs/CONTRACTS.md has the contracts in words.
 
+#![tactic(auto)]
+
 // 8.3.1: loads a guideline. All tables are blank where it is refused.
 pub use load::load;
 

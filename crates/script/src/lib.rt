@@ -1,5 +1,7 @@
 // A script of calls, as docs/REPLAY.md has it: what stands at a place of it, and the place behind that.
 // What is not there ends at NOWHERE, a place that no script has and behind which nothing is found.
+#![tactic(auto)]
+
 mod calls;
 mod lexemes;
 mod scripts;

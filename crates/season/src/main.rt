@@ -2,6 +2,8 @@
 // actions are confirmed. Each line is a series of calls of its own, and comes back with the values of all data items, the actions that were
 // reached, and how it ended. The answer goes to standard output, what is told beside it to standard error, and to file descriptor 4 why the
 // status is not 0: `g` if the guideline is refused, `r` if something of the sheet is.
+#![tactic(auto)]
+
 mod buffer;
 mod chunks;
 mod fields;

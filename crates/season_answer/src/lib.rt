@@ -1,5 +1,7 @@
 // A sheet: what each column of its first line stands for. And the lines of its answer: the labels, the values of all data items, the actions that were reached, the cycles, and how it ended.
 // Each function answers the place in the buffer behind what it wrote.
+#![tactic(auto)]
+
 mod called;
 mod copied;
 mod ends;

@@ -1,4 +1,6 @@
 // Records of separated values, as RFC 4180 has them, with one byte for the separator: read from bytes as they come in chunks, and written.
+#![tactic(auto)]
+
 mod fields;
 mod machine;
 mod quotes;

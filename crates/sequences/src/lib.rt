@@ -1,4 +1,6 @@
 // The functors and operators of section 11 that go through a list.
+#![tactic(auto)]
+
 mod adding;
 mod counting;
 mod extremes;

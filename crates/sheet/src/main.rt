@@ -1,5 +1,7 @@
 // The small program: reads one expression a line and writes, behind a header, for each line its number, type and value, or its refusal.
 // It only moves bytes: it reads a chunk as it comes, has its lines answered, and writes the answers before it reads on.
+#![tactic(auto)]
+
 mod output;
 
 ghost use Rattle.std.specs.Prelude.{◌≤◌, ◌<◌, length};

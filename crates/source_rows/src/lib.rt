@@ -1,4 +1,6 @@
 // The rows of a source, as the plan tells them.
+#![tactic(auto)]
+
 ghost use Rattle.std.specs.Prelude.{◌<◌};
 ghost use Rattle.source_rows.specs.SourceRow.{SourceRow};
 

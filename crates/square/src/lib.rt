@@ -1,5 +1,7 @@
 // Who waits for whom, as 1,024 bytes, row by row: what other languages lend. A byte that is 1 is a mark; past the end there is none.
 // A mark is written as 1, and what is none as 0.
+#![tactic(auto)]
+
 ghost use Rattle.std.specs.Prelude.{◌≡◌, ◌≤◌};
 ghost use Rattle.square.specs.Square.{row_of, square_of, Packed};
 

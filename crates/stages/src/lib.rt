@@ -1,4 +1,6 @@
 // The stages of load from the grammar to the limits: what the tokens of a text are refused with, and where; or the tables of their structure.
+#![tactic(auto)]
+
 mod limiting;
 mod room;
 

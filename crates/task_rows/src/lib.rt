@@ -1,4 +1,6 @@
 // The rows of a task, as the plan and the state tell them.
+#![tactic(auto)]
+
 ghost use Rattle.std.specs.Prelude.{◌<◌, ◌≡◌};
 ghost use Rattle.waits.specs.Booleans.{any_f};
 ghost use Rattle.waits.specs.Twins.{marked};

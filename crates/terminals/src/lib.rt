@@ -1,5 +1,7 @@
 // The numbers of the terminals, each by a name: the words and symbols that stand in double quotes in 3.2, and the kinds of the other tokens.
 // All are tied once, by the function at the end, to the definitions.
+#![tactic(auto)]
+
 ghost use Rattle.std.specs.Prelude.{◌≡◌};
 ghost use Rattle.terminals.specs.Numbers.{numbers as defined};
 

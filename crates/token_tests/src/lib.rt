@@ -1,4 +1,6 @@
 // The tests of load on single tokens: the first that names something left out (refusal 10), the first past a limit (refusal 6).
+#![tactic(auto)]
+
 pub mod edition;
 pub mod sizes;
 

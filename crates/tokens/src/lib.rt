@@ -1,4 +1,6 @@
 // The whole text: its tokens go into three lent columns, or it is refused with 1, 2 or 6.
+#![tactic(auto)]
+
 ghost use Rattle.std.specs.Prelude.{◌≡◌, ℕ, ◌+◌, ◌≤◌, ◌<◌, length, replicate};
 ghost use Rattle.tokens.specs.Reply.{Reads, RoomIs};
 ghost use Rattle.tokens.specs.Loop.{FirstHigh, Early, stored, counted, bracket_of, Filled, Late};

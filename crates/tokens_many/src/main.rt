@@ -1,5 +1,7 @@
 // The tokens of the texts of a batch, a line for each:
 // `refused N P`, or `tokens` and ` K:P:L` for each token, with its kind, place and length. For comparison with the second program.
+#![tactic(auto)]
+
 use batch::Next;
 use libc::STDOUT_FILENO;
 use limits::TokenList;

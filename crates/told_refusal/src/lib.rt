@@ -1,4 +1,6 @@
 // A guideline from a file descriptor, any bytes; and its refusal: the line for programs, then for people the place, its line and what is wrong.
+#![tactic(auto)]
+
 mod leaf;
 mod locate;
 mod named;

@@ -1,5 +1,7 @@
 // Every row of one component, property by property in section 10's order, in words on standard output.
 // Nothing is asked of the tables: on any contents each ends and does nothing undefined.
+#![tactic(auto)]
+
 mod components;
 mod properties;
 mod told;

@@ -1,5 +1,7 @@
 // What a person sees of a loaded guideline: its tree of tasks, the data items that are asked for, the tasks that wait to be confirmed.
 // Nothing is asked of the tables: on any contents each ends and does nothing undefined.
+#![tactic(auto)]
+
 mod captions;
 mod owners;
 mod requests;

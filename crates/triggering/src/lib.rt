@@ -1,4 +1,6 @@
 // 8.3.7, SendTrigger.
+#![tactic(auto)]
+
 ghost use Rattle.std.specs.Prelude.{◌≡◌, ◌+◌, ◌<◌, eqb, get_or};
 ghost use Rattle.paper_expressions.specs.Laws.Search.{sameb};
 ghost use Rattle.parts.specs.Texts.{text_at_fn};

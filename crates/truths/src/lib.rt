@@ -1,4 +1,6 @@
 // The expressions of tasks, by the evaluator: conditions, and assigned values.
+#![tactic(auto)]
+
 ghost use Rattle.std.specs.Prelude.{◌≡◌};
 ghost use Rattle.truths.specs.Part.{part_of, shown_by};
 ghost use Rattle.parts.specs.Part.{table};

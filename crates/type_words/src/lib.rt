@@ -1,4 +1,6 @@
 // Types and operators in words: how they are called, and what they take by section 11.
+#![tactic(auto)]
+
 use libc::STDOUT_FILENO;
 use parts::Code;
 

@@ -1,5 +1,7 @@
 // A value that a person writes: integers, reals, texts between double quotes, true, false, yes, no, unknown, and lists of these.
 // It goes to cells and bytes as adding a value takes them. A bare word is no text: a misspelt name would become one unnoticed.
+#![tactic(auto)]
+
 mod elements;
 pub mod lexemes;
 mod lists;

@@ -1,6 +1,8 @@
 // The typer: the type of the expression that the part table holds up to a place, by section 4, or no type.
 // A type is a letter: T text, I integer, R real, B truth value, and t, i, r, a for sets of text, integer, real, anything.
 // 0 is no type. Nothing is asked of the tables: on any contents the typer ends and does nothing undefined.
+#![tactic(auto)]
+
 pub mod fitting;
 mod leaves;
 mod lists;

@@ -1,5 +1,7 @@
 // Refusal 5: the smallest place at which an expression has no fitting type.
 // Nothing is asked of the tables: on any contents it ends and does nothing undefined.
+#![tactic(auto)]
+
 pub mod columns;
 mod misfits;
 

@@ -1,4 +1,6 @@
 // Values as the engine holds them.
+#![tactic(auto)]
+
 mod list;
 mod scalar;
 mod text;

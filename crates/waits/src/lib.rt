@@ -1,4 +1,6 @@
 // The tasks that a task waits for, and marks of tasks.
+#![tactic(auto)]
+
 ghost use Rattle.std.specs.Prelude.{◌≡◌, Bool, ◌&&◌, ◌||◌};
 ghost use Rattle.waits.specs.Twins.{ended_f, timed_f, marked};
 ghost use Rattle.waits.specs.Antecedents.{Noted, Upto};

@@ -1,5 +1,7 @@
 // Why a task is where it is, in words on standard output: condition by condition, decided by the functions that the engine runs by.
 // Nothing is asked of the tables: on any contents it ends and does nothing undefined.
+#![tactic(auto)]
+
 mod ahead;
 mod condition;
 mod dormant;

@@ -1,4 +1,6 @@
 // The reserved strings, and the atoms that 3.3 asks for in some places: one table, and one look-up.
+#![tactic(auto)]
+
 ghost use Rattle.std.specs.Prelude.{◌≡◌, Bool, true, ◌+◌, ◌≤◌, ◌<◌, length};
 ghost use Rattle.paper_tokens.specs.Lexical.{part};
 ghost use Rattle.words.specs.Entries.{table, places, Found, Same};

@@ -1,4 +1,6 @@
 // The answers of the small program as bytes, appended to a lent buffer. Each function answers the place behind what it wrote.
+#![tactic(auto)]
+
 mod answers;
 mod lists;
 mod scalars;

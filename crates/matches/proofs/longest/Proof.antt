@@ -7,7 +7,7 @@ use Rattle.matches.proofs.longest.Tie as tie
 walk-requires : tie.Need-walk-requires
 walk-requires c κs =
     let s = c.before.before in
-    (s.requires.0, λ e. shut_none s.args.text.now s.args.at s.args.last s.requires.1 (c.hopeless.ensures e))
+    (s.requires.0, λ e. shut_none s.args.text.now s.args.at s.args.last s.requires.1 (c.hopeless-shut.ensures e))
 
-pub longest-spec : {M : Type 1} → statement M
-longest-spec = tie.close (tie.spec (λ c κs. search rules) walk-requires (λ c. search rules))
+pub longest_spec : {M : Type 1} → statement M
+longest_spec = tie.close (tie.spec (λ c κs. search rules) walk-requires (λ c. search rules))

@@ -51,8 +51,8 @@ walk-holds c =
     let y : 7 ≡ (at - at + 1) * 7 = omega arith in (
       omega arith,
       omega arith,
-      ap length c.begin.ensures ∙ begin-length s.args.shut,
-      λ j h. ap (λ (l : List ℕ). get_or l j 0) c.begin.ensures ∙ sym (after_none t at g ok j) ∙ ap (λ (n : ℕ). After g t at j n) (sym z),
+      ap length c.begin-states.ensures ∙ begin-length s.args.shut,
+      λ j h. ap (λ (l : List ℕ). get_or l j 0) c.begin-states.ensures ∙ sym (after_none t at g ok j) ∙ ap (λ (n : ℕ). After g t at j n) (sym z),
       subst (λ (p : ℕ). Sofar t at p (record { len = 0; rule = 0 })) y (sofar_none t at g ok (record { len = 0; rule = 0 }) refl),
     )
 
@@ -70,7 +70,7 @@ rules-holds c =
       subst (λ (p : ℕ). Sofar s.args.text.now s.args.at p w.best) y w.invariant.4,
     )
 
-next-requires : tie.Need-next-requires invariant-rules decreases-rules invariant-walk decreases-walk
+next-requires : tie.Need-next-q-requires invariant-rules decreases-rules invariant-walk decreases-walk
 next-requires c κs =
     let u = c.before.before.rules in
     let w = c.before.before.before.before.before.before.walk in
@@ -83,15 +83,15 @@ next-requires c κs =
     let e : get_or u.states u.r 0 ≡ After g t at u.r (w.i - at) = u.invariant.4 u.r (omega arith) l in
     let y = after_small t at g ok u.r (w.i - at) l in
     let f = fine_small (get_or t w.i 0) in
-    let k = c.before.before.before.kind.ensures in
-    (c.before.before.before.before.before.before.before.before.before.delta.ensures, omega arith, omega arith)
+    let k = c.before.before.before.kind-k.ensures in
+    (c.before.before.before.before.before.before.before.before.before.delta-delta.ensures, omega arith, omega arith)
 
 -- the state that was reached, and its rule's run
-reached : (c : tie.After-next invariant-rules decreases-rules invariant-walk decreases-walk) →
+reached : (c : tie.After-next-q invariant-rules decreases-rules invariant-walk decreases-walk) →
     let u = c.before.before.before.rules in
     let w = c.before.before.before.before.before.before.before.walk in
     let s = c.before.before.before.before.before.before.before.before.before.before.before.before in
-    c.next.result ≡ After (begin_of s.args.shut) s.args.text.now s.args.at u.r (w.i - s.args.at + 1)
+    c.next-q.result ≡ After (begin_of s.args.shut) s.args.text.now s.args.at u.r (w.i - s.args.at + 1)
 reached c =
     let u = c.before.before.before.rules in
     let w = c.before.before.before.before.before.before.before.walk in
@@ -99,11 +99,11 @@ reached c =
     let t = s.args.text.now in
     let at = s.args.at in
     let l : u.r < 7 = omega arith in
-    after_step t at (begin_of s.args.shut) (begun t at s.args.shut s.requires.1) u.r w.i (get_or u.states u.r 0) c.next.result (omega arith) (omega arith)
+    after_step t at (begin_of s.args.shut) (begun t at s.args.shut s.requires.1) u.r w.i (get_or u.states u.r 0) c.next-q.result (omega arith) (omega arith)
     (u.invariant.4 u.r (omega arith) l)
-    (c.next.ensures ∙ ap (λ (k : ℕ). next_of (get_or u.states u.r 0) k) c.before.before.before.before.kind.ensures)
+    (c.next-q.ensures ∙ ap (λ (k : ℕ). next_of (get_or u.states u.r 0) k) c.before.before.before.before.kind-k.ensures)
 
-small : (c : tie.After-next invariant-rules decreases-rules invariant-walk decreases-walk) → c.next.result < 35
+small : (c : tie.After-next-q invariant-rules decreases-rules invariant-walk decreases-walk) → c.next-q.result < 35
 small c =
     let u = c.before.before.before.rules in
     let w = c.before.before.before.before.before.before.before.walk in
@@ -112,10 +112,10 @@ small c =
     let y = after_small s.args.text.now s.args.at (begin_of s.args.shut) (begun s.args.text.now s.args.at s.args.shut s.requires.1) u.r (w.i - s.args.at + 1) (omega arith) in
     omega arith
 
-better-requires : tie.Need-better-requires invariant-rules decreases-rules invariant-walk decreases-walk
-better-requires c κs = (c.before.before.before.before.before.before.before.before.before.before.accepts.ensures, small c.before)
+better-requires : tie.Need-better-best-requires invariant-rules decreases-rules invariant-walk decreases-walk
+better-requires c κs = (c.before.before.before.before.before.before.before.before.before.before.accepts-accepts.ensures, small c.before)
 
-add-alive : tie.Need-overflow-add-alive invariant-rules decreases-rules invariant-walk decreases-walk
+add-alive : tie.Need-overflow_add-alive invariant-rules decreases-rules invariant-walk decreases-walk
 add-alive c = let h = small c.before.before in let u = c.before.before.before.before.before.rules in let l : u.r < 7 = omega arith in omega arith
 
 rules-again : tie.Need-rules-preserved invariant-rules decreases-rules invariant-walk decreases-walk
@@ -130,14 +130,14 @@ rules-again c =
     let l : u.r < 7 = omega arith in
     let e = reached c.before.before in
     let y = small c.before.before in
-    let q = c.before.before.next.result in (
+    let q = c.before.before.next-q.result in (
       omega arith,
       search rules,
       omega arith,
       set_done u.states u.r q (λ (j : ℕ). After g t at j (w.i - at + 1)) (λ (j : ℕ). After g t at j (w.i - at)) (omega arith) e u.invariant.3,
       set_left u.states u.r q (λ (j : ℕ). After g t at j (w.i - at + 1)) (λ (j : ℕ). After g t at j (w.i - at)) u.invariant.4,
       set_quiet u.states u.r q (λ (j : ℕ). After g t at j (w.i - at + 1)) (λ (j : ℕ). After g t at j (w.i - at)) u.alive e u.invariant.5,
-      subst (Sofar t at ((w.i - at + 1) * 7 + (u.r + 1))) (sym c.better.ensures)
+      subst (Sofar t at ((w.i - at + 1) * 7 + (u.r + 1))) (sym c.better-best.ensures)
           (sofar_more t at g ok u.best q u.r (w.i - at + 1) l (omega arith) (omega arith) e u.invariant.6),
     )
 
@@ -149,7 +149,7 @@ walk-again c =
     let t = s.args.text.now in
     let at = s.args.at in
     let g = begin_of s.args.shut in
-    let z : u.r ≡ 7 = c.before.if1.true in
+    let z : u.r ≡ 7 = c.before.if-r-eq-COUNT.true in
     let n : w.i - at + 1 ≡ w.i + 1 - at = omega arith in
     let y : (w.i - at + 1) * 7 + u.r ≡ (w.i + 1 - at + 1) * 7 = omega arith in (
       omega arith,
@@ -159,7 +159,7 @@ walk-again c =
       subst (λ (p : ℕ). Sofar t at p u.best) y u.invariant.6,
     )
 
-returns : tie.Need-returns invariant-rules decreases-rules invariant-walk decreases-walk
+returns : tie.Need-returns-after-walk invariant-rules decreases-rules invariant-walk decreases-walk
 returns c =
     let w = c.before.walk in
     let s = c.before.before.before.before.before.before in
@@ -168,20 +168,20 @@ returns c =
     let e : at + (w.i - at) ≡ length t = omega arith in
     settled_end t at (begin_of s.args.shut) (begun t at s.args.shut s.requires.1) w.best (w.i - at) e w.invariant.4
 
-returns-2 : tie.Need-returns-2 invariant-rules decreases-rules invariant-walk decreases-walk
+returns-2 : tie.Need-returns-then-alive-eq-DEAD invariant-rules decreases-rules invariant-walk decreases-walk
 returns-2 c =
     let u = c.before.before.rules in
     let w = c.before.before.before.before.before.before.walk in
     let s = c.before.before.before.before.before.before.before.before.before.before.before in
     let t = s.args.text.now in
     let at = s.args.at in
-    let z : u.r ≡ 7 = c.before.if1.true in
+    let z : u.r ≡ 7 = c.before.if-r-eq-COUNT.true in
     settled_dead t at (begin_of s.args.shut) (begun t at s.args.shut s.requires.1) u.best (w.i - at)
-    (λ j h. u.invariant.5 c.if2.true j (omega arith))
+    (λ j h. u.invariant.5 c.if-alive-eq-DEAD.true j (omega arith))
     (subst (λ (r : ℕ). Sofar t at ((w.i - at + 1) * 7 + r) u.best) z u.invariant.6)
 
-pub walk-spec : {M : Type 1} → statement M
-walk-spec =
+pub walk_spec : {M : Type 1} → statement M
+walk_spec =
     tie.close
     (tie.spec
     invariant-rules

@@ -10,5 +10,5 @@ returns : tie.Need-returns
 unfolding table packed strings reserved yes_or_no data_types
 returns c = refl
 
-pub words-spec : {M : Type 1} → statement M
-words-spec = tie.close (tie.spec returns)
+pub words_spec : {M : Type 1} → statement M
+words_spec = tie.close (tie.spec returns)
