@@ -115,16 +115,31 @@ first? ts ((us ⇒ u) ∷ rest) = go (reaches? ts us) (first? ts rest)
     go (no n) (has t f) = has t (next n f)
     go (no n) (has_none f) = has_none (no_first n f)
 
+pub nothing_is_cons : {u : Ty} {us : List Ty} → ¬ ([] ≡ u ∷ us)
+nothing_is_cons e = no_clash (cc)
+
+pub cons_is_nothing : {t : Ty} {ts : List Ty} → ¬ (t ∷ ts ≡ [])
+cons_is_nothing e = no_clash (cc)
+
+pub cons_same : {t u : Ty} {ts us : List Ty} → t ≡ u → ts ≡ us → t ∷ ts ≡ u ∷ us
+cons_same e f = cc
+
+pub heads_same : {t u : Ty} {ts us : List Ty} → t ∷ ts ≡ u ∷ us → t ≡ u
+heads_same e = cc
+
+pub tails_same : {t u : Ty} {ts us : List Ty} → t ∷ ts ≡ u ∷ us → ts ≡ us
+tails_same e = cc
+
 abbrev pub same-list? : (ts us : List Ty) → Dec (ts ≡ us)
 same-list? [] [] = yes refl
-same-list? [] (u ∷ us) = no (λ e. no_clash (cc))
-same-list? (t ∷ ts) [] = no (λ e. no_clash (cc))
+same-list? [] (u ∷ us) = no nothing_is_cons
+same-list? (t ∷ ts) [] = no cons_is_nothing
 same-list? (t ∷ ts) (u ∷ us) = go (Ty-discrete t u) (same-list? ts us)
   where
     go : Dec (t ≡ u) → Dec (ts ≡ us) → Dec (t ∷ ts ≡ u ∷ us)
-    go (yes e) (yes f) = yes (cc)
-    go (yes e) (no n) = no (λ f. n (cc))
-    go (no n) f = no (λ g. n (cc))
+    go (yes e) (yes f) = yes (cons_same e f)
+    go (yes e) (no n) = no (λ f. n (tails_same f))
+    go (no n) f = no (λ g. n (heads_same g))
 
 pub among_cases : {ts us : List Ty} {t u : Ty} {rest : List Allowed} → ¬ (ts ≡ us) → Among (ts ⇒ t) ((us ⇒ u) ∷ rest) → Among (ts ⇒ t) rest
 among_cases n here = absurd (n refl)
