@@ -4,14 +4,14 @@ use borrow.Author.Rules.{rules}
 use Rattle.answering.proofs.named.Statement.{statement}
 use Rattle.answering.proofs.named.Tie as tie
 
-returns : tie.Need-returns
-returns c = well_named c.before.before.before.before.before.before.before.before.before.before.before.before.check.result c.before.before.before.before.before.before.before.before.before.before.before.before.check.ensures c.before.before.before.before.before.before.before.before.before.before.enum_told.given.1 c.before.before.before.before.before.before.type-inv.ensures
+returns : tie.Need-returns-in-Nowhere
+returns c = well_named c.before.before.before.before.before.before.before.before.before.before.before.before.check.result c.before.before.before.before.before.before.before.before.before.before.before.before.check.ensures c.before.before.before.before.before.before.before.before.before.before.enum_told-1.given.1 c.before.before.before.before.before.before.type-inv.ensures
 
-returns-2 : tie.Need-returns-2
-returns-2 c = ill_named c.before.before.before.before.before.before.before.before.before.before.before.before.before.check.result c.before.before.before.before.before.before.before.before.before.before.before.before.before.check.ensures c.before.before.before.before.before.before.before.before.before.before.before.place.given.1 c.before.before.before.before.before.before.blank.ensures
+returns-2 : tie.Need-returns-in-At
+returns-2 c = ill_named c.before.before.before.before.before.before.before.before.before.before.before.before.before.check.result c.before.before.before.before.before.before.before.before.before.before.before.before.before.check.ensures c.before.before.before.before.before.before.before.before.before.before.before.place-1.given.1 c.before.before.before.before.before.before.blank.ensures
 
-pub named-spec : {M : Type 1} → statement M
-named-spec =
+pub named_spec : {M : Type 1} → statement M
+named_spec =
     tie.close
     (tie.spec
     (λ c κs. search rules)

@@ -4,11 +4,11 @@ use borrow.Author.Rules.{rules}
 use Rattle.answering.proofs.typed.Statement.{statement}
 use Rattle.answering.proofs.typed.Tie as tie
 
-returns : tie.Need-returns
-returns c = well_typed c.before.before.check.result c.before.before.check.ensures c.enum_told.given.1
+returns : tie.Need-returns-in-Nowhere
+returns c = well_typed c.before.before.check.result c.before.before.check.ensures c.enum_told-1.given.1
 
-returns-2 : tie.Need-returns-2
-returns-2 c = ill_typed c.before.before.before.before.before.before.before.before.before.before.before.before.before.check.result c.before.before.before.before.before.before.before.before.before.before.before.before.before.check.ensures c.before.before.before.before.before.before.before.before.before.before.before.place.given.1 c.before.before.before.before.before.before.blank.ensures
+returns-2 : tie.Need-returns-in-At
+returns-2 c = ill_typed c.before.before.before.before.before.before.before.before.before.before.before.before.before.check.result c.before.before.before.before.before.before.before.before.before.before.before.before.before.check.ensures c.before.before.before.before.before.before.before.before.before.before.before.place-1.given.1 c.before.before.before.before.before.before.blank.ensures
 
 pub typed_spec : {M : Type 1} → statement M
 typed_spec =

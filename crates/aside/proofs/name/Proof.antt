@@ -4,14 +4,14 @@ use Prim.Native.Nat.{◌-◌}
 use Rattle.aside.proofs.name.Statement.{statement}
 use Rattle.aside.proofs.name.Tie as tie
 
-abbrev invariant-loop : tie.invariant-loop
+abbrev invariant-loop : tie.invariant-loop-i
 invariant-loop texts h n i₀ i = Unit {0}
 
-abbrev decreases-loop : tie.decreases-loop
+abbrev decreases-loop : tie.decreases-loop-i
 decreases-loop texts h n i₀ i = n - i
 
-pub name-spec : {M : Type 1} → statement M
-name-spec =
+pub name_spec : {M : Type 1} → statement M
+name_spec =
     tie.close
     (tie.spec
     invariant-loop

@@ -8,11 +8,11 @@ use borrow.Author.Rules.{rules}
 use Rattle.asked.proofs.is_requested.Statement.{statement}
 use Rattle.asked.proofs.is_requested.Tie as tie
 
-returns : tie.Need-returns
-returns c = same_no (eqb (get_or c.before.before.before.args.state.now (712 + c.before.before.before.args.d) 0) 1) c.before.cell.ensures c.if1.true
+returns : tie.Need-returns-then-cell-ne-TRUTH
+returns c = same_no (eqb (get_or c.before.before.before.args.state.now (712 + c.before.before.before.args.d) 0) 1) c.before.cell.ensures c.if-cell-ne-TRUTH.true
 
-returns-2 : tie.Need-returns-2
-returns-2 c = same_yes c.before.before.cell.ensures c.before.if1.false (ap (λ (x : ℕ). eqb x 1) c.cell2.ensures)
+returns-2 : tie.Need-returns
+returns-2 c = same_yes c.before.before.cell.ensures c.before.if-cell-ne-TRUTH.false (ap (λ (x : ℕ). eqb x 1) c.cell-2.ensures)
 
-pub is-requested-spec : {M : Type 1} → statement M
-is-requested-spec = tie.close (tie.spec (λ c κs. search rules) returns (λ c κs. search rules) returns-2)
+pub is_requested_spec : {M : Type 1} → statement M
+is_requested_spec = tie.close (tie.spec (λ c κs. search rules) returns (λ c κs. search rules) returns-2)

@@ -5,11 +5,11 @@ use borrow.Author.Rules.{rules}
 use Rattle.asked.proofs.waits_for.Statement.{statement}
 use Rattle.asked.proofs.waits_for.Tie as tie
 
-returns : tie.Need-returns
-returns c = and_yes c.before.before.is-asking.ensures c.before.if1.true c.has_source.ensures
+returns : tie.Need-returns-then-is_asking
+returns c = and_yes c.before.before.is_asking.ensures c.before.if-is_asking.true c.has_source.ensures
 
-returns-2 : tie.Need-returns-2
-returns-2 c = and_no (has_source c.before.before.before.before.args.plan.now c.before.before.before.before.args.d c.before.before.before.before.args.t) c.before.is-asking.ensures c.if1.false
+returns-2 : tie.Need-returns
+returns-2 c = and_no (has_source c.before.before.before.before.args.plan.now c.before.before.before.before.args.d c.before.before.before.before.args.t) c.before.is_asking.ensures c.if-is_asking.false
 
-pub waits-for-spec : {M : Type 1} → statement M
-waits-for-spec = tie.close (tie.spec (λ c κs. search rules) (λ c κs. search rules) returns returns-2)
+pub waits_for_spec : {M : Type 1} → statement M
+waits_for_spec = tie.close (tie.spec (λ c κs. search rules) (λ c κs. search rules) returns returns-2)

@@ -6,11 +6,11 @@ use borrow.Author.Rules.{rules}
 use Rattle.assigning.proofs.same.Statement.{statement}
 use Rattle.assigning.proofs.same.Tie as tie
 
-returns : tie.Need-returns
-returns c = (λ e. (c.before.before.same_cells.ensures.0 c.before.if1.true, c.same_bytes.ensures.0 e), λ h. c.same_bytes.ensures.1 h.1)
+returns : tie.Need-returns-then-same_cells
+returns c = (λ e. (c.before.before.same_cells.ensures.0 c.before.if-same_cells.true, c.same_bytes.ensures.0 e), λ h. c.same_bytes.ensures.1 h.1)
 
-returns-2 : tie.Need-returns-2
-returns-2 c = (λ e. contra e, λ h. contra (sym c.if1.false ∙ c.before.same_cells.ensures.1 h.0))
+returns-2 : tie.Need-returns
+returns-2 c = (λ e. contra e, λ h. contra (sym c.if-same_cells.false ∙ c.before.same_cells.ensures.1 h.0))
 
 pub same_spec : {M : Type 1} → statement M
 same_spec =

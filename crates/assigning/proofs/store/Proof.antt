@@ -8,32 +8,32 @@ use borrow.Author.Rules.{rules}
 use Rattle.assigning.proofs.store.Statement.{statement}
 use Rattle.assigning.proofs.store.Tie as tie
 
-abbrev invariant-loop : tie.invariant-loop
+abbrev invariant-loop : tie.invariant-loop-d
 invariant-loop news texts s₀ b₀ d₀ s b d = (d ≤ 64) × Stored news texts d s₀ s b₀ b
 
-abbrev decreases-loop : tie.decreases-loop
+abbrev decreases-loop : tie.decreases-loop-d
 decreases-loop news texts s₀ b₀ d₀ s b d = 64 - d
 
-loop-holds : tie.Need-loop-init invariant-loop decreases-loop
+loop-holds : tie.Need-loop-d-init invariant-loop decreases-loop
 loop-holds c = (omega arith, stored_start _ _ _ _)
 
-loop-again : tie.Need-loop-preserved invariant-loop decreases-loop
+loop-again : tie.Need-loop-d-preserved invariant-loop decreases-loop
 loop-again c =
     let a = c.before.before.before.before.before.before.before.before.before.before.before.before.before.args in
-    let lp = c.before.before.before.before.before.before.before.before.loop in
-    (omega arith, stored_more a.news.now a.texts.now lp.d a.s.now lp.s c.before.before.before.before.store-one.new.1.1.1.0 a.b.now lp.b c.before.before.before.before.store-one.new.1.1.1.1.0 (omega arith) lp.invariant.1 c.before.before.before.before.store-one.ensures)
+    let lp = c.before.before.before.before.before.before.before.before.loop-d in
+    (omega arith, stored_more a.news.now a.texts.now lp.d a.s-1.now lp.s-1 c.before.before.before.before.store_one.new.1.1.1.0 a.b-1.now lp.b-1 c.before.before.before.before.store_one.new.1.1.1.1.0 (omega arith) lp.invariant.1 c.before.before.before.before.store_one.ensures)
 
-same_length : tie.Need-same-length invariant-loop decreases-loop
-same_length c = c.before.loop.invariant.1.rest.size
+same_length : tie.Need-shape_of-s invariant-loop decreases-loop
+same_length c = c.before.loop-d.invariant.1.rest.size
 
-same-length-2 : tie.Need-same-length-2 invariant-loop decreases-loop
-same-length-2 c = c.before.loop.invariant.1.rest.room
+same-length-2 : tie.Need-shape_of-b invariant-loop decreases-loop
+same-length-2 c = c.before.loop-d.invariant.1.rest.room
 
 returns : tie.Need-returns invariant-loop decreases-loop
 returns c =
     let a = c.before.before.before.before.before.before.args in
-    let lp = c.before.loop in
-    stored_all a.news.now a.texts.now lp.d a.s.now lp.s a.b.now lp.b (omega arith) lp.invariant.1
+    let lp = c.before.loop-d in
+    stored_all a.news.now a.texts.now lp.d a.s-1.now lp.s-1 a.b-1.now lp.b-1 (omega arith) lp.invariant.1
 
 pub store_spec : {M : Type 1} → statement M
 store_spec =

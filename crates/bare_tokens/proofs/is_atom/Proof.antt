@@ -5,17 +5,17 @@ use Rattle.bare_tokens.specs.Bare.{is_atom}
 use Rattle.bare_tokens.proofs.is_atom.Statement.{statement}
 use Rattle.bare_tokens.proofs.is_atom.Tie as tie
 
-returns : tie.Need-returns
-returns c = ap is_atom (sym c.match.keys1)
+returns : tie.Need-returns-in-95
+returns c = ap is_atom (sym c.in-95.keys1)
 
-returns-2 : tie.Need-returns-2
-returns-2 c = ap is_atom (sym c.match.keys2)
+returns-2 : tie.Need-returns-in-96
+returns-2 c = ap is_atom (sym c.in-96.keys2)
 
-returns-3 : tie.Need-returns-3
-returns-3 c = ap is_atom (sym c.match.keys3)
+returns-3 : tie.Need-returns-in-97
+returns-3 c = ap is_atom (sym c.in-97.keys3)
 
-returns-4 : tie.Need-returns-4
-returns-4 c = let r = c.match.rest in simp (ne_eqb _ 95 r.0.0.1, ne_eqb _ 96 r.0.1, ne_eqb _ 97 r.1)
+returns-4 : tie.Need-returns-in_default
+returns-4 c = let r = c.in_default.rest in simp (ne_eqb _ 95 r.0.0.1, ne_eqb _ 96 r.0.1, ne_eqb _ 97 r.1)
 
-pub is-atom-spec : {M : Type 1} → statement M
-is-atom-spec = tie.close (tie.spec returns returns-2 returns-3 returns-4)
+pub is_atom_spec : {M : Type 1} → statement M
+is_atom_spec = tie.close (tie.spec returns returns-2 returns-3 returns-4)

@@ -5,14 +5,14 @@ use borrow.Author.Rules.{rules}
 use Rattle.bare_tokens.proofs.is_bare.Statement.{statement}
 use Rattle.bare_tokens.proofs.is_bare.Tie as tie
 
-returns : tie.Need-returns
-returns c = simp (eq-eqb _ 255 c.if1.true)
+returns : tie.Need-returns-then-w-eq-NONE
+returns c = simp (eq-eqb _ 255 c.if-w-eq-NONE.true-raw)
 
-returns-2 : tie.Need-returns-2
-returns-2 c = simp (ne_eqb _ 255 c.before.before.if1.false, sym c.before.is_plain.ensures ∙ not-true _ c.if2.true)
+returns-2 : tie.Need-returns-then-not-is_plain
+returns-2 c = simp (ne_eqb _ 255 c.before.before.if-w-eq-NONE.false-raw, sym c.before.is_plain.ensures ∙ not-true _ c.if-not-is_plain.true-raw)
 
-returns-3 : tie.Need-returns-3
-returns-3 c = simp (ne_eqb _ 255 c.before.before.before.if1.false, sym c.before.before.is_plain.ensures ∙ not-false _ c.before.if2.false) c.is_read.ensures
+returns-3 : tie.Need-returns
+returns-3 c = simp (ne_eqb _ 255 c.before.before.before.if-w-eq-NONE.false-raw, sym c.before.before.is_plain.ensures ∙ not-false _ c.before.if-not-is_plain.false-raw) c.is_read.ensures
 
-pub is-bare-spec : {M : Type 1} → statement M
-is-bare-spec = tie.close (tie.spec returns (λ c κs. search rules) returns-2 (λ c κs. search rules) returns-3)
+pub is_bare_spec : {M : Type 1} → statement M
+is_bare_spec = tie.close (tie.spec returns (λ c κs. search rules) returns-2 (λ c κs. search rules) returns-3)

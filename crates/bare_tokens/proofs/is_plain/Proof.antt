@@ -6,11 +6,11 @@ use borrow.Author.Rules.{rules}
 use Rattle.bare_tokens.proofs.is_plain.Statement.{statement}
 use Rattle.bare_tokens.proofs.is_plain.Tie as tie
 
-returns : tie.Need-returns
-returns c = simp (ap is_atom (sym c.before.before.byte.ensures) ∙ sym c.before.is_atom.ensures ∙ not-true _ c.if1.true)
+returns : tie.Need-returns-then-not-is_atom
+returns c = simp (ap is_atom (sym c.before.before.byte.ensures) ∙ sym c.before.is_atom.ensures ∙ not-true _ c.if-not-is_atom.true-raw)
 
-returns-2 : tie.Need-returns-2
-returns-2 c = simp (ap is_atom (sym c.before.before.before.before.byte.ensures) ∙ sym c.before.before.before.is_atom.ensures ∙ not-false _ c.before.before.if1.false, sym c.before.cell.ensures, sym c.byte2.ensures)
+returns-2 : tie.Need-returns
+returns-2 c = simp (ap is_atom (sym c.before.before.before.before.byte.ensures) ∙ sym c.before.before.before.is_atom.ensures ∙ not-false _ c.before.before.if-not-is_atom.false-raw, sym c.before.cell.ensures, sym c.byte-2.ensures)
 
-pub is-plain-spec : {M : Type 1} → statement M
-is-plain-spec = tie.close (tie.spec (λ c κs. search rules) (λ c κs. search rules) returns (λ c κs. search rules) (λ c κs. search rules) returns-2)
+pub is_plain_spec : {M : Type 1} → statement M
+is_plain_spec = tie.close (tie.spec (λ c κs. search rules) (λ c κs. search rules) returns (λ c κs. search rules) (λ c κs. search rules) returns-2)

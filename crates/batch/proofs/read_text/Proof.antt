@@ -5,11 +5,11 @@ use borrow.Author.Rules.{rules}
 use Rattle.batch.proofs.read_text.Statement.{statement}
 use Rattle.batch.proofs.read_text.Tie as tie
 
-slice-aggregate-read-full : tie.Need-slice-aggregate-read-full
+slice-aggregate-read-full : tie.Need-slice_bounds-read_full-end-2
 slice-aggregate-read-full c = simp length-take (omega arith)
 
-pub read-text-spec : {M : Type 1} → statement M
-read-text-spec =
+pub read_text_spec : {M : Type 1} → statement M
+read_text_spec =
     tie.close
     (tie.spec
     (λ c. search rules) (λ c. search rules)

@@ -8,32 +8,32 @@ use borrow.Author.Rules.{rules}
 use Rattle.blocks.proofs.copy_cells.Statement.{statement}
 use Rattle.blocks.proofs.copy_cells.Tie as tie
 
-abbrev invariant-loop : tie.invariant-loop
+abbrev invariant-loop : tie.invariant-loop-k
 invariant-loop from p to₀ q n k₀ to k = (k ≤ n) × Copied from p to₀ q k to
 
-abbrev decreases-loop : tie.decreases-loop
+abbrev decreases-loop : tie.decreases-loop-k
 decreases-loop from p to₀ q n k₀ to k = n - k
 
-loop-holds : tie.Need-loop-init invariant-loop decreases-loop
+loop-holds : tie.Need-loop-k-init invariant-loop decreases-loop
 loop-holds c = (omega arith, copied_none _ _ _ _)
 
-loop-again : tie.Need-loop-preserved invariant-loop decreases-loop
+loop-again : tie.Need-loop-k-preserved invariant-loop decreases-loop
 loop-again c =
     let a = c.before.before.before.before.before.before.before.before.before.args in
-    let lp = c.before.before.before.before.before.before.loop in
-    (omega arith, copied_more a.from.now a.p a.to.now a.q lp.k lp.to c.before.before.put-cell.new.0 c.before.before.before.cell.ensures c.before.before.put-cell.ensures lp.invariant.1)
+    let lp = c.before.before.before.before.before.before.loop-k in
+    (omega arith, copied_more a.from.now a.p a.to-1.now a.q lp.k lp.to-1 c.before.before.put_cell.new.0 c.before.before.before.cell.ensures c.before.before.put_cell.ensures lp.invariant.1)
 
-same_length : tie.Need-same-length invariant-loop decreases-loop
-same_length c = c.before.loop.invariant.1.size
+same_length : tie.Need-shape_of-to invariant-loop decreases-loop
+same_length c = c.before.loop-k.invariant.1.size
 
 returns : tie.Need-returns invariant-loop decreases-loop
 returns c =
     let a = c.before.before.before.before.args in
-    let lp = c.before.loop in
-    copied_all a.from.now a.p a.to.now a.q a.n lp.k lp.to (omega arith) lp.invariant.1
+    let lp = c.before.loop-k in
+    copied_all a.from.now a.p a.to-1.now a.q a.n lp.k lp.to-1 (omega arith) lp.invariant.1
 
-pub copy-cells-spec : {M : Type 1} → statement M
-copy-cells-spec =
+pub copy_cells_spec : {M : Type 1} → statement M
+copy_cells_spec =
     tie.close
     (tie.spec
     invariant-loop

@@ -6,8 +6,8 @@ use borrow.Author.Rules.{rules}
 use Rattle.blocks.proofs.put_cell.Statement.{statement}
 use Rattle.blocks.proofs.put_cell.Tie as tie
 
-returns-2 : tie.Need-returns-2
+returns-2 : tie.Need-returns-else-i-s
 returns-2 c = sym (set_out c.before.args.s.now c.before.args.i c.before.args.x (omega arith))
 
-pub put-cell-spec : {M : Type 1} → statement M
-put-cell-spec = tie.close (tie.spec (λ c. search rules) (λ c. search rules) (λ c. search rules) (λ c. search rules) returns-2)
+pub put_cell_spec : {M : Type 1} → statement M
+put_cell_spec = tie.close (tie.spec (λ c. search rules) (λ c. search rules) (λ c. search rules) (λ c. search rules) returns-2)

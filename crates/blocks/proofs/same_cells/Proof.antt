@@ -7,32 +7,32 @@ use borrow.Author.Rules.{rules}
 use Rattle.blocks.proofs.same_cells.Statement.{statement}
 use Rattle.blocks.proofs.same_cells.Tie as tie
 
-abbrev invariant-loop : tie.invariant-loop
+abbrev invariant-loop : tie.invariant-loop-k
 invariant-loop a p b q n k₀ k = (k ≤ n) × Same a p b q k
 
-abbrev decreases-loop : tie.decreases-loop
+abbrev decreases-loop : tie.decreases-loop-k
 decreases-loop a p b q n k₀ k = n - k
 
-loop-holds : tie.Need-loop-init invariant-loop decreases-loop
+loop-holds : tie.Need-loop-k-init invariant-loop decreases-loop
 loop-holds c = (omega arith, λ j l. absurd (not-suc-le-zero l))
 
-returns : tie.Need-returns invariant-loop decreases-loop
+returns : tie.Need-returns-then-cell invariant-loop decreases-loop
 returns c =
     let a = c.before.before.before.before.before.before.before.args in
-    same_not a.a.now a.p a.b.now a.q a.n c.before.before.before.before.loop.k (omega arith) c.before.before.cell.ensures c.before.cell2.ensures c.if1.true
+    same_not a.a.now a.p a.b.now a.q a.n c.before.before.before.before.loop-k.k (omega arith) c.before.before.cell.ensures c.before.cell-in-loop-k.ensures c.if-cell.true
 
-loop-again : tie.Need-loop-preserved invariant-loop decreases-loop
+loop-again : tie.Need-loop-k-preserved invariant-loop decreases-loop
 loop-again c =
     let a = c.before.before.before.before.before.before.before.args in
-    (omega arith, same_more a.a.now a.p a.b.now a.q c.before.before.before.before.loop.k c.before.before.cell.ensures c.before.cell2.ensures c.if1.false c.before.before.before.before.loop.invariant.1)
+    (omega arith, same_more a.a.now a.p a.b.now a.q c.before.before.before.before.loop-k.k c.before.before.cell.ensures c.before.cell-in-loop-k.ensures c.if-cell.false c.before.before.before.before.loop-k.invariant.1)
 
-returns-2 : tie.Need-returns-2 invariant-loop decreases-loop
+returns-2 : tie.Need-returns invariant-loop decreases-loop
 returns-2 c =
     let a = c.before.before.before.before.args in
-    same_all a.a.now a.p a.b.now a.q a.n c.before.loop.k (omega arith) c.before.loop.invariant.1
+    same_all a.a.now a.p a.b.now a.q a.n c.before.loop-k.k (omega arith) c.before.loop-k.invariant.1
 
-pub same-cells-spec : {M : Type 1} → statement M
-same-cells-spec =
+pub same_cells_spec : {M : Type 1} → statement M
+same_cells_spec =
     tie.close
     (tie.spec
     invariant-loop

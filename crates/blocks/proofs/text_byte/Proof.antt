@@ -6,15 +6,15 @@ use borrow.Author.Rules.{rules}
 use Rattle.blocks.proofs.text_byte.Statement.{statement}
 use Rattle.blocks.proofs.text_byte.Tie as tie
 
-returns : tie.Need-returns
+returns : tie.Need-returns-then-k-n
 returns c =
     let a = c.before.before.before.args in
-    c.at.ensures ∙ sym (cells_at a.from.now a.p a.n a.k c.before.if1.true)
+    c.at.ensures ∙ sym (cells_at a.from.now a.p a.n a.k c.before.if-k-n.true)
 
-returns-2 : tie.Need-returns-2
+returns-2 : tie.Need-returns
 returns-2 c =
     let a = c.before.before.args in
     sym (cells_past a.from.now a.p a.n a.k (omega arith))
 
-pub text-byte-spec : {M : Type 1} → statement M
-text-byte-spec = tie.close (tie.spec (λ c κs. search rules) returns returns-2)
+pub text_byte_spec : {M : Type 1} → statement M
+text_byte_spec = tie.close (tie.spec (λ c κs. search rules) returns returns-2)

@@ -7,42 +7,42 @@ use borrow.Author.Rules.{rules}
 use Rattle.changes.proofs.found.Statement.{statement}
 use Rattle.changes.proofs.found.Tie as tie
 
-abbrev invariant-loop : tie.invariant-loop
+abbrev invariant-loop : tie.invariant-loop-i
 invariant-loop o n c p k x m i₀ i = (i ≤ m) × NoneUpto o c p k x i
 
-abbrev decreases-loop : tie.decreases-loop
+abbrev decreases-loop : tie.decreases-loop-i
 decreases-loop o n c p k x m i₀ i = m - i
 
-bounded-requires : tie.Need-bounded-requires invariant-loop decreases-loop
+bounded-requires : tie.Need-bounded-m-requires invariant-loop decreases-loop
 bounded-requires c κs = search rules
 
-loop-holds : tie.Need-loop-init invariant-loop decreases-loop
+loop-holds : tie.Need-loop-i-init invariant-loop decreases-loop
 loop-holds c = (omega arith, λ j l. absurd (omega arith))
 
-is-row-requires : tie.Need-is-row-requires invariant-loop decreases-loop
-is-row-requires c κs = let z = c.before.before.bounded.ensures.0 in omega arith
+is-row-requires : tie.Need-is_row-requires invariant-loop decreases-loop
+is-row-requires c κs = let z = c.before.before.bounded-m.ensures.0 in omega arith
 
-returns : tie.Need-returns invariant-loop decreases-loop
+returns : tie.Need-returns-then-is_row invariant-loop decreases-loop
 returns c =
     let a = c.before.before.before.before.before.before.args in
-    let z = c.before.before.before.before.bounded.ensures.1 in
-    found_here a.o.now a.n a.c a.p a.k a.x c.before.before.before.loop.i c.if1.true c.before.is_row.ensures (omega arith)
+    let z = c.before.before.before.before.bounded-m.ensures.1 in
+    found_here a.o.now a.n a.c a.p a.k a.x c.before.before.before.loop-i.i c.if-is_row.true c.before.is_row.ensures (omega arith)
 
-add-i : tie.Need-overflow-add-i invariant-loop decreases-loop
+add-i : tie.Need-overflow_add-i invariant-loop decreases-loop
 add-i c = search rules
 
-loop-less : tie.Need-loop-smaller invariant-loop decreases-loop
+loop-less : tie.Need-loop-i-smaller invariant-loop decreases-loop
 loop-less c = search rules
 
-loop-again : tie.Need-loop-preserved invariant-loop decreases-loop
+loop-again : tie.Need-loop-i-preserved invariant-loop decreases-loop
 loop-again c =
     let a = c.before.before.before.before.before.before.args in
-    (omega arith, none_more a.o.now a.c a.p a.k a.x c.before.before.before.loop.i c.if1.false c.before.is_row.ensures c.before.before.before.loop.invariant.1)
+    (omega arith, none_more a.o.now a.c a.p a.k a.x c.before.before.before.loop-i.i c.if-is_row.false c.before.is_row.ensures c.before.before.before.loop-i.invariant.1)
 
-returns-2 : tie.Need-returns-2 invariant-loop decreases-loop
-returns-2 c = λ room j l. let z = c.before.before.bounded.ensures.2 room in c.before.loop.invariant.1 j (omega arith)
+returns-2 : tie.Need-returns invariant-loop decreases-loop
+returns-2 c = λ room j l. let z = c.before.before.bounded-m.ensures.2 room in c.before.loop-i.invariant.1 j (omega arith)
 
-pub found-spec : {M : Type 1} → statement M
-found-spec =
+pub found_spec : {M : Type 1} → statement M
+found_spec =
     tie.close
     (tie.spec invariant-loop decreases-loop bounded-requires loop-holds is-row-requires returns add-i loop-less loop-again returns-2)

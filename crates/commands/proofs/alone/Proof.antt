@@ -5,13 +5,13 @@ use Rattle.commands.specs.Commands.{alone_of}
 use Rattle.commands.proofs.alone.Statement.{statement}
 use Rattle.commands.proofs.alone.Tie as tie
 
-returns : tie.Need-returns
+returns : tie.Need-returns-then-at-s
 unfolding alone_of
-returns c = rw (lt-ltb c.before.args.at (length c.before.args.s.now) c.if1.true)
+returns c = rw (lt-ltb c.before.args.at (length c.before.args.s.now) c.if-at-s.true)
 
-returns-2 : tie.Need-returns-2
+returns-2 : tie.Need-returns
 unfolding alone_of
-returns-2 c = rw (le-ltb c.before.args.at (length c.before.args.s.now) c.if1.false)
+returns-2 c = rw (le-ltb c.before.args.at (length c.before.args.s.now) c.if-at-s.false)
 
-pub alone-spec : {M : Type 1} → statement M
-alone-spec = tie.close (tie.spec returns returns-2)
+pub alone_spec : {M : Type 1} → statement M
+alone_spec = tie.close (tie.spec returns returns-2)

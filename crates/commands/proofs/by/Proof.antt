@@ -7,17 +7,17 @@ use borrow.Author.Rules.{rules}
 use Rattle.commands.proofs.by.Statement.{statement}
 use Rattle.commands.proofs.by.Tie as tie
 
-returns : tie.Need-returns
-returns c = rw (not-true c.before.before.args.a.there c.if1.true)
+returns : tie.Need-returns-then-not-a
+returns c = rw (not-true c.before.before.args.a.there c.if-not-a.true)
 
-returns-2 : tie.Need-returns-2
-returns-2 c = rw (not-false c.before.before.before.before.args.a.there c.before.before.if1.false) (ap (λ (w : Way). by_way' w c.before.before.before.before.args.a.seconds) (sym c.enum_told.given.1))
+returns-2 : tie.Need-returns-in-To
+returns-2 c = rw (not-false c.before.before.before.before.args.a.there c.before.before.if-not-a.false) (ap (λ (w : Way). by_way' w c.before.before.before.before.args.a.seconds) (sym c.enum_told-1.given.1))
 
-returns-3 : tie.Need-returns-3
-returns-3 c = rw (not-false c.before.before.before.before.args.a.there c.before.before.if1.false) (ap (λ (w : Way). by_way' w c.before.before.before.before.args.a.seconds) (sym c.enum-told2.given.1))
+returns-3 : tie.Need-returns-in-On
+returns-3 c = rw (not-false c.before.before.before.before.args.a.there c.before.before.if-not-a.false) (ap (λ (w : Way). by_way' w c.before.before.before.before.args.a.seconds) (sym c.enum_told-in-On-1.given.1))
 
-returns-4 : tie.Need-returns-4
-returns-4 c = rw (not-false c.before.before.before.before.args.a.there c.before.before.if1.false) (ap (λ (w : Way). by_way' w c.before.before.before.before.args.a.seconds) (sym c.enum-told3.given.1))
+returns-4 : tie.Need-returns-in-Back
+returns-4 c = rw (not-false c.before.before.before.before.args.a.there c.before.before.if-not-a.false) (ap (λ (w : Way). by_way' w c.before.before.before.before.args.a.seconds) (sym c.enum_told-in-Back-1.given.1))
 
-pub by-spec : {M : Type 1} → statement M
-by-spec = tie.close (tie.spec returns (λ c. search rules) (λ c. search rules) (λ c. search rules) returns-2 returns-3 returns-4)
+pub by_spec : {M : Type 1} → statement M
+by_spec = tie.close (tie.spec returns (λ c. search rules) (λ c. search rules) (λ c. search rules) returns-2 returns-3 returns-4)

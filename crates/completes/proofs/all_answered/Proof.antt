@@ -9,32 +9,32 @@ use borrow.Author.Rules.{rules}
 use Rattle.completes.proofs.all_answered.Statement.{statement}
 use Rattle.completes.proofs.all_answered.Tie as tie
 
-abbrev invariant-loop : tie.invariant-loop
+abbrev invariant-loop : tie.invariant-loop-i
 invariant-loop s f first count from all i₀ i = (i ≤ count) × (true ≡ all_f (λ (j : ℕ). answered_f s f (first + j)) i)
 
-abbrev decreases-loop : tie.decreases-loop
+abbrev decreases-loop : tie.decreases-loop-i
 decreases-loop s f first count from all i₀ i = count - i
 
-loop-holds : tie.Need-loop-init invariant-loop decreases-loop
+loop-holds : tie.Need-loop-i-init invariant-loop decreases-loop
 loop-holds c = (omega arith, all_none _)
 
-returns : tie.Need-returns invariant-loop decreases-loop
+returns : tie.Need-returns-then-not-answered invariant-loop decreases-loop
 returns c =
     let a = c.before.before.before.before.before.before.args in
-    all_off (λ (j : ℕ). answered_f a.s.now a.f.now (a.first + j)) c.before.before.before.loop.i a.count (omega arith) c.before.answered.ensures (not_true _ c.if1.true)
+    all_off (λ (j : ℕ). answered_f a.s.now a.f.now (a.first + j)) c.before.before.before.loop-i.i a.count (omega arith) c.before.answered.ensures (not_true _ c.if-not-answered.true-raw)
 
-loop-again : tie.Need-loop-preserved invariant-loop decreases-loop
+loop-again : tie.Need-loop-i-preserved invariant-loop decreases-loop
 loop-again c =
     let a = c.before.before.before.before.before.before.args in
-    (omega arith, all_on (λ (j : ℕ). answered_f a.s.now a.f.now (a.first + j)) c.before.before.before.loop.i c.before.answered.ensures (not_false _ c.if1.false) c.before.before.before.loop.invariant.1)
+    (omega arith, all_on (λ (j : ℕ). answered_f a.s.now a.f.now (a.first + j)) c.before.before.before.loop-i.i c.before.answered.ensures (not_false _ c.if-not-answered.false-raw) c.before.before.before.loop-i.invariant.1)
 
-returns-2 : tie.Need-returns-2 invariant-loop decreases-loop
+returns-2 : tie.Need-returns invariant-loop decreases-loop
 returns-2 c =
     let a = c.before.before.before.before.args in
-    all_end (λ (j : ℕ). answered_f a.s.now a.f.now (a.first + j)) c.before.loop.i a.count (omega arith) c.before.loop.invariant.1
+    all_end (λ (j : ℕ). answered_f a.s.now a.f.now (a.first + j)) c.before.loop-i.i a.count (omega arith) c.before.loop-i.invariant.1
 
-pub all-answered-spec : {M : Type 1} → statement M
-all-answered-spec =
+pub all_answered_spec : {M : Type 1} → statement M
+all_answered_spec =
     tie.close
     (tie.spec
     invariant-loop

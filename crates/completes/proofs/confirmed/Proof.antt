@@ -6,5 +6,5 @@ use Rattle.completes.proofs.confirmed.Tie as tie
 returns : tie.Need-returns
 returns c = cc
 
-pub confirmed-spec : {M : Type 1} → statement M
-confirmed-spec = tie.close (tie.spec (λ c κs. search rules) (λ c κs. search rules) (λ c κs. search rules) returns)
+pub confirmed_spec : {M : Type 1} → statement M
+confirmed_spec = tie.close (tie.spec (λ c κs. search rules) (λ c κs. search rules) (λ c κs. search rules) returns)

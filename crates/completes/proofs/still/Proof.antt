@@ -6,8 +6,8 @@ use Rattle.completes.proofs.still.Tie as tie
 returns : tie.Need-returns
 returns c = cc
 
-pub still-spec : {M : Type 1} → statement M
-still-spec =
+pub still_spec : {M : Type 1} → statement M
+still_spec =
     tie.close
     (tie.spec
     (λ c κs. search rules) (λ c κs. search rules) (λ c κs. search rules) (λ c κs. search rules) (λ c κs. search rules)

@@ -10,34 +10,34 @@ use borrow.Author.Rules.{rules}
 use Rattle.completes.proofs.unsettled.Statement.{statement}
 use Rattle.completes.proofs.unsettled.Tie as tie
 
-abbrev invariant-loop : tie.invariant-loop
+abbrev invariant-loop : tie.invariant-loop-t
 invariant-loop s f starts discards initialises m₀ t₀ m t = (t ≤ 32) × Below f (λ C. not (settled_f s starts discards initialises C)) t m
 
-abbrev decreases-loop : tie.decreases-loop
+abbrev decreases-loop : tie.decreases-loop-t
 decreases-loop s f starts discards initialises m₀ t₀ m t = 32 - t
 
-loop-holds : tie.Need-loop-init invariant-loop decreases-loop
+loop-holds : tie.Need-loop-t-init invariant-loop decreases-loop
 loop-holds c = (omega arith, below_none _ _ _ refl (λ T l. get_or-replicate 32 T false false l))
 
-array-write-m : tie.Need-array-write-m invariant-loop decreases-loop
+array-write-m : tie.Need-bounds-m-p invariant-loop decreases-loop
 array-write-m c =
-    let h = c.before.parent.ensures.0 in
-    let e = c.before.before.before.before.before.loop.invariant.1.size in
+    let h = c.before.parent-p.ensures.0 in
+    let e = c.before.before.before.before.before.loop-t.invariant.1.size in
     omega arith
 
-loop-again : tie.Need-loop-preserved invariant-loop decreases-loop
+loop-again : tie.Need-loop-t-preserved invariant-loop decreases-loop
 loop-again c =
     let a = c.before.before.before.before.before.before.before.before.args in
-    let lp = c.before.before.before.before.before.loop in
-    (omega arith, below_more a.f.now (λ C. not (settled_f a.s.now a.starts a.discards a.initialises C)) lp.t lp.m (set lp.m c.before.parent.result c.raised.result) c.before.before.cell.ensures (ap not c.before.before.before.settled.ensures) (raised_at lp.m c.before.parent.result c.before.before.cell.result c.before.parent.ensures.0 c.before.parent.ensures.1 c.raised.ensures) lp.invariant.1)
+    let lp = c.before.before.before.before.before.loop-t in
+    (omega arith, below_more a.f.now (λ C. not (settled_f a.s.now a.starts a.discards a.initialises C)) lp.t lp.m (set lp.m c.before.parent-p.result c.raised-u.result) c.before.before.cell-x.ensures (ap not c.before.before.before.settled-v.ensures) (raised_at lp.m c.before.parent-p.result c.before.before.cell-x.result c.before.parent-p.ensures.0 c.before.parent-p.ensures.1 c.raised-u.ensures) lp.invariant.1)
 
 returns : tie.Need-returns invariant-loop decreases-loop
 returns c =
     let a = c.before.before.before.before.args in
-    below_all a.f.now (λ C. not (settled_f a.s.now a.starts a.discards a.initialises C)) c.before.loop.t c.before.loop.m (omega arith) c.before.loop.invariant.1
+    below_all a.f.now (λ C. not (settled_f a.s.now a.starts a.discards a.initialises C)) c.before.loop-t.t c.before.loop-t.m (omega arith) c.before.loop-t.invariant.1
 
-pub unsettled-spec : {M : Type 1} → statement M
-unsettled-spec =
+pub unsettled_spec : {M : Type 1} → statement M
+unsettled_spec =
     tie.close
     (tie.spec
     invariant-loop

@@ -15,13 +15,13 @@ returns c =
     let s' = c.before.before.raise.new.1.0 in
     let news = c.before.before.before.before.before.before.before.before.before.before.before.before.before.before.before.before.before.before.before.before.gather.new.1.1.1.1.1.1.0 in
     let texts = c.before.before.before.before.before.before.before.before.before.before.before.before.before.before.before.before.before.before.before.before.gather.new.1.1.1.1.1.1.1.0 in (
-      cycled a.x.now a.b.now b' a.f.now a.s.now v u s' a.o.now a.m (replicate 2304 0) news (replicate 49152 0) texts (scratch_room 2304 49152 (omega arith) (omega arith)) (scratch_fresh 2304 (omega arith))
+      cycled a.x.now a.b-1.now b' a.f.now a.s-1.now v u s' a.o.now a.m (replicate 2304 0) news (replicate 49152 0) texts (scratch_room 2304 49152 (omega arith) (omega arith)) (scratch_fresh 2304 (omega arith))
           c.before.before.before.before.before.before.before.before.before.before.before.before.before.before.before.before.before.before.before.before.gather.ensures c.before.before.before.before.before.before.before.before.before.before.before.before.before.before.before.before.enact.ensures c.before.before.before.before.before.before.before.before.before.store.ensures c.before.before.raise.ensures,
-      moved_nothing_else a.b.now b' a.s.now v u s' a.o.now a.m news texts c.before.before.before.before.before.before.before.before.before.before.before.before.before.before.before.before.enact.ensures c.before.before.before.before.before.before.before.before.before.store.ensures c.before.before.raise.ensures,
+      moved_nothing_else a.b-1.now b' a.s-1.now v u s' a.o.now a.m news texts c.before.before.before.before.before.before.before.before.before.before.before.before.before.before.before.before.enact.ensures c.before.before.before.before.before.before.before.before.before.store.ensures c.before.before.raise.ensures,
     )
 
-pub enact-spec : {M : Type 1} → statement M
-enact-spec =
+pub enact_spec : {M : Type 1} → statement M
+enact_spec =
     tie.close
     (tie.spec
     (λ c. search rules) (λ c. search rules) (λ c κs. search rules) (λ c κs. search rules) (λ c. search rules) (λ c. search rules)

@@ -6,8 +6,8 @@ use Rattle.discards.proofs.discard_one.Tie as tie
 returns : tie.Need-returns
 returns c = cc
 
-pub discard-one-spec : {M : Type 1} → statement M
-discard-one-spec =
+pub discard_one_spec : {M : Type 1} → statement M
+discard_one_spec =
     tie.close
     (tie.spec
     (λ c κs. search rules) (λ c κs. search rules) (λ c κs. search rules) (λ c κs. search rules) (λ c κs. search rules)

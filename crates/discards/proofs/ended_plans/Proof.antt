@@ -10,32 +10,32 @@ use borrow.Author.Rules.{rules}
 use Rattle.discards.proofs.ended_plans.Statement.{statement}
 use Rattle.discards.proofs.ended_plans.Tie as tie
 
-abbrev invariant-loop : tie.invariant-loop
+abbrev invariant-loop : tie.invariant-loop-t
 invariant-loop s f m₀ t₀ m t = (t ≤ 32) × Below f (ends_f s f) t m
 
-abbrev decreases-loop : tie.decreases-loop
+abbrev decreases-loop : tie.decreases-loop-t
 decreases-loop s f m₀ t₀ m t = 32 - t
 
-loop-holds : tie.Need-loop-init invariant-loop decreases-loop
+loop-holds : tie.Need-loop-t-init invariant-loop decreases-loop
 loop-holds c = (omega arith, below_none _ _ _ refl (λ T l. get_or-replicate 32 T false false l))
 
-array-write-m : tie.Need-array-write-m invariant-loop decreases-loop
+array-write-m : tie.Need-bounds-m-p invariant-loop decreases-loop
 array-write-m c =
-    let h = c.before.parent.ensures.0 in
-    let e = c.before.before.before.before.before.loop.invariant.1.size in
+    let h = c.before.parent-p.ensures.0 in
+    let e = c.before.before.before.before.before.loop-t.invariant.1.size in
     omega arith
 
-loop-again : tie.Need-loop-preserved invariant-loop decreases-loop
+loop-again : tie.Need-loop-t-preserved invariant-loop decreases-loop
 loop-again c =
     let a = c.before.before.before.before.before.before.before.before.args in
-    let lp = c.before.before.before.before.before.loop in
-    (omega arith, below_more a.f.now (ends_f a.s.now a.f.now) lp.t lp.m (set lp.m c.before.parent.result c.raised.result) c.before.before.cell.ensures c.before.before.before.ends.ensures (raised_at lp.m c.before.parent.result c.before.before.cell.result c.before.parent.ensures.0 c.before.parent.ensures.1 c.raised.ensures) lp.invariant.1)
+    let lp = c.before.before.before.before.before.loop-t in
+    (omega arith, below_more a.f.now (ends_f a.s.now a.f.now) lp.t lp.m (set lp.m c.before.parent-p.result c.raised-u.result) c.before.before.cell-x.ensures c.before.before.before.ends-v.ensures (raised_at lp.m c.before.parent-p.result c.before.before.cell-x.result c.before.parent-p.ensures.0 c.before.parent-p.ensures.1 c.raised-u.ensures) lp.invariant.1)
 
 returns : tie.Need-returns invariant-loop decreases-loop
-returns c = below_all c.before.before.before.before.args.f.now (ends_f c.before.before.before.before.args.s.now c.before.before.before.before.args.f.now) c.before.loop.t c.before.loop.m (omega arith) c.before.loop.invariant.1
+returns c = below_all c.before.before.before.before.args.f.now (ends_f c.before.before.before.before.args.s.now c.before.before.before.before.args.f.now) c.before.loop-t.t c.before.loop-t.m (omega arith) c.before.loop-t.invariant.1
 
-pub ended-plans-spec : {M : Type 1} → statement M
-ended-plans-spec =
+pub ended_plans_spec : {M : Type 1} → statement M
+ended_plans_spec =
     tie.close
     (tie.spec
     invariant-loop

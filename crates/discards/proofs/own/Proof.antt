@@ -6,8 +6,8 @@ use Rattle.discards.proofs.own.Tie as tie
 returns : tie.Need-returns
 returns c = cc
 
-pub own-spec : {M : Type 1} → statement M
-own-spec =
+pub own_spec : {M : Type 1} → statement M
+own_spec =
     tie.close
     (tie.spec
     (λ c κs. search rules) (λ c κs. search rules) (λ c κs. search rules) (λ c κs. search rules) (λ c κs. search rules)

@@ -7,12 +7,12 @@ use borrow.Author.Rules.{rules}
 use Rattle.discards.proofs.under.Statement.{statement}
 use Rattle.discards.proofs.under.Tie as tie
 
-returns : tie.Need-returns
-returns c = sym (rw (eq-eqb c.before.before.args.x 0 c.if1.true))
+returns : tie.Need-returns-then-x-eq0
+returns c = sym (rw (eq-eqb c.before.before.args.x 0 c.if-x-eq0.true))
 
-returns-2 : tie.Need-returns-2
+returns-2 : tie.Need-returns
 returns-2 c =
-    let z : eqb c.before.before.before.before.before.before.before.before.before.args.x 0 ≡ false = ne_eqb c.before.before.before.before.before.before.before.before.before.args.x 0 c.before.before.before.before.before.before.before.if1.false in
+    let z : eqb c.before.before.before.before.before.before.before.before.before.args.x 0 ≡ false = ne_eqb c.before.before.before.before.before.before.before.before.before.args.x 0 c.before.before.before.before.before.before.before.if-x-eq0.false in
     rw z (cc)
 
 pub under_spec : {M : Type 1} → statement M

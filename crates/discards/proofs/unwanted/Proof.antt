@@ -6,5 +6,5 @@ use Rattle.discards.proofs.unwanted.Tie as tie
 returns : tie.Need-returns
 returns c = cc
 
-pub unwanted-spec : {M : Type 1} → statement M
-unwanted-spec = tie.close (tie.spec (λ c κs. search rules) (λ c κs. search rules) returns)
+pub unwanted_spec : {M : Type 1} → statement M
+unwanted_spec = tie.close (tie.spec (λ c κs. search rules) (λ c κs. search rules) returns)

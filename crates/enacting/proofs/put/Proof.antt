@@ -8,15 +8,15 @@ use borrow.Author.Rules.{rules}
 use Rattle.enacting.proofs.put.Statement.{statement}
 use Rattle.enacting.proofs.put.Tie as tie
 
-returns : tie.Need-returns
+returns : tie.Need-returns-then-j-s
 returns c =
     let a = c.before.before.args in
     record { size = simp length-set; both = λ l m. refl; other = λ m e f. two_set a.s.now a.i a.j a.k a.x m e f }
 
-returns-2 : tie.Need-returns-2
+returns-2 : tie.Need-returns-else-j-s
 returns-2 c = record { size = refl; both = λ l m. absurd (omega arith); other = λ m e f. refl }
 
-returns-3 : tie.Need-returns-3
+returns-3 : tie.Need-returns-else-i-s
 returns-3 c = record { size = refl; both = λ l m. absurd (omega arith); other = λ m e f. refl }
 
 pub put_spec : {M : Type 1} → statement M

@@ -9,7 +9,7 @@ use Rattle.evaluator.proofs.value_of.Tie as tie
 returns : tie.Need-returns
 returns c =
     let a = c.before.before.before.before.before.before.before.before.args in
-    published (table a.cells.now a.bytes.now) (columns a.names.now a.tags.now a.nums.now a.tasks.now a.states.now) a.task a.end a.depth c.part-value.result c.part-value.ensures
+    published (table a.cells.now a.bytes.now) (columns a.names.now a.tags.now a.nums.now a.tasks.now a.states.now) a.task a.end a.depth c.part_value.result c.part_value.ensures
 
-pub value-of-spec : {M : Type 1} → statement M
-value-of-spec = tie.close (tie.spec (λ c κs. search rules) returns)
+pub value_of_spec : {M : Type 1} → statement M
+value_of_spec = tie.close (tie.spec (λ c κs. search rules) returns)

@@ -4,11 +4,11 @@ use borrow.Author.Rules.{rules}
 use Rattle.expression_steps.proofs.kind_at.Statement.{statement}
 use Rattle.expression_steps.proofs.kind_at.Tie as tie
 
-returns : tie.Need-returns
-returns c = rw (lt-ltb _ _ c.before.if1.true)
+returns : tie.Need-returns-then-p-kinds
+returns c = rw (lt-ltb _ _ c.before.if-p-kinds.true)
 
-returns-2 : tie.Need-returns-2
-returns-2 c = rw (le-ltb _ _ c.if1.false)
+returns-2 : tie.Need-returns
+returns-2 c = rw (le-ltb _ _ c.if-p-kinds.false)
 
-pub kind-at-spec : {M : Type 1} → statement M
-kind-at-spec = tie.close (tie.spec (λ c. search rules) returns returns-2)
+pub kind_at_spec : {M : Type 1} → statement M
+kind_at_spec = tie.close (tie.spec (λ c. search rules) returns returns-2)

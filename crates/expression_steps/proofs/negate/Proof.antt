@@ -7,29 +7,29 @@ use borrow.Author.Rules.{rules}
 use Rattle.expression_steps.proofs.negate.Statement.{statement}
 use Rattle.expression_steps.proofs.negate.Tie as tie
 
-abbrev invariant-loop : tie.invariant-loop
+abbrev invariant-loop : tie.invariant-loop-i
 invariant-loop cells₀ u v m i₀ cells i = (i ≤ m) × Negated cells₀ cells u v m i
 
-abbrev decreases-loop : tie.decreases-loop
+abbrev decreases-loop : tie.decreases-loop-i
 decreases-loop cells₀ u v m i₀ cells i = m - i
 
-loop-holds : tie.Need-loop-init invariant-loop decreases-loop
+loop-holds : tie.Need-loop-i-init invariant-loop decreases-loop
 loop-holds c = (omega arith, negated_none _ _ _ _)
 
-add-put : tie.Need-overflow-add-put invariant-loop decreases-loop
-add-put c = let h = c.before.before.loop.invariant.0 in omega arith
+add-put : tie.Need-overflow_add-v invariant-loop decreases-loop
+add-put c = let h = c.before.before.loop-i.invariant.0 in omega arith
 
-loop-again : tie.Need-loop-preserved invariant-loop decreases-loop
-loop-again c = let h = c.before.before.before.before.loop-test.true in (omega arith, negated_more h c.before.before.before.before.before.loop.invariant.1 c.before.before.put.ensures)
+loop-again : tie.Need-loop-i-preserved invariant-loop decreases-loop
+loop-again c = let h = c.before.before.before.before.loop-i-test.true in (omega arith, negated_more h c.before.before.before.before.before.loop-i.invariant.1 c.before.before.put.ensures)
 
-same_length : tie.Need-same-length invariant-loop decreases-loop
-same_length c = c.before.loop.invariant.1.beside.long
+same_length : tie.Need-shape_of-cells invariant-loop decreases-loop
+same_length c = c.before.loop-i.invariant.1.beside.long
 
 returns : tie.Need-returns invariant-loop decreases-loop
-returns c = let h = c.loop-test.false in let b = c.before.loop.invariant.0 in negated_done (omega arith) c.before.loop.invariant.1
+returns c = let h = c.loop-i-test.false in let b = c.before.loop-i.invariant.0 in negated_done (omega arith) c.before.loop-i.invariant.1
 
-pub negate-spec : {M : Type 1} → statement M
-negate-spec =
+pub negate_spec : {M : Type 1} → statement M
+negate_spec =
     tie.close
     (tie.spec
     invariant-loop

@@ -3,11 +3,11 @@ use borrow.Author.Tests.{eq-eqb, ne_eqb}
 use Rattle.field_values.proofs.is_text.Statement.{statement}
 use Rattle.field_values.proofs.is_text.Tie as tie
 
-returns : tie.Need-returns
-returns c = simp (eq-eqb _ _ c.if1.true)
+returns : tie.Need-returns-then-declared-eq-TEXT
+returns c = simp (eq-eqb _ _ c.if-declared-eq-TEXT.true)
 
-returns-2 : tie.Need-returns-2
-returns-2 c = simp (ne_eqb _ _ c.if1.false)
+returns-2 : tie.Need-returns
+returns-2 c = simp (ne_eqb _ _ c.if-declared-eq-TEXT.false)
 
-pub is-text-spec : {M : Type 1} → statement M
-is-text-spec = tie.close (tie.spec returns returns-2)
+pub is_text_spec : {M : Type 1} → statement M
+is_text_spec = tie.close (tie.spec returns returns-2)

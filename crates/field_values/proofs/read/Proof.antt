@@ -5,11 +5,11 @@ use borrow.Author.Rules.{rules}
 use Rattle.field_values.proofs.read.Statement.{statement}
 use Rattle.field_values.proofs.read.Tie as tie
 
-returns : tie.Need-returns
-returns c = read_as c.before.before.before.before.before.before.before.before.before.before.before.before.before.before.args.declared c.before.before.before.before.before.before.before.before.before.before.before.before.before.before.args.field.now true c.before.before.before.before.before.before.before.before.before.before.is_text.ensures c.before.before.before.before.before.before.before.before.before.if1.true c.before.before.before.before.before.text.ensures
+returns : tie.Need-returns-then-is_text
+returns c = read_as c.before.before.before.before.before.before.before.before.before.before.before.before.before.before.args.declared c.before.before.before.before.before.before.before.before.before.before.before.before.before.before.args.field.now true c.before.before.before.before.before.before.before.before.before.before.is_text.ensures c.before.before.before.before.before.before.before.before.before.if-is_text.true c.before.before.before.before.before.text.ensures
 
-returns-2 : tie.Need-returns-2
-returns-2 c = read_as c.before.before.before.before.before.before.before.before.before.before.before.before.before.before.args.declared c.before.before.before.before.before.before.before.before.before.before.before.before.before.before.args.field.now false c.before.before.before.before.before.before.before.before.before.before.is_text.ensures c.before.before.before.before.before.before.before.before.before.if1.false c.before.before.before.before.before.type-inv.ensures
+returns-2 : tie.Need-returns
+returns-2 c = read_as c.before.before.before.before.before.before.before.before.before.before.before.before.before.before.args.declared c.before.before.before.before.before.before.before.before.before.before.before.before.before.before.args.field.now false c.before.before.before.before.before.before.before.before.before.before.is_text.ensures c.before.before.before.before.before.before.before.before.before.if-is_text.false c.before.before.before.before.before.type-inv.ensures
 
 pub read_spec : {M : Type 1} → statement M
 read_spec =

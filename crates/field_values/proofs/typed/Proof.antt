@@ -4,11 +4,11 @@ use borrow.Author.Rules.{rules}
 use Rattle.field_values.proofs.typed.Statement.{statement}
 use Rattle.field_values.proofs.typed.Tie as tie
 
-returns : tie.Need-returns
-returns c = as_value c.before.before.before.before.before.before.before.before.before.before.before.before.before.before.args.declared c.before.before.before.before.before.before.before.read.ensures.1 c.enum_told.given.1
+returns : tie.Need-returns-in-Value
+returns c = as_value c.before.before.before.before.before.before.before.before.before.before.before.before.before.before.args.declared c.before.before.before.before.before.before.before.read.ensures.1 c.enum_told-1.given.1
 
-returns-2 : tie.Need-returns-2
-returns-2 c = as_wrong c.before.before.before.before.before.before.before.before.before.before.before.before.before.before.before.before.args.declared c.before.before.before.before.before.before.before.before.before.read.ensures.1 c.before.before.slip.given.1 c.number_of.ensures
+returns-2 : tie.Need-returns-in-Wrong
+returns-2 c = as_wrong c.before.before.before.before.before.before.before.before.before.before.before.before.before.before.before.before.args.declared c.before.before.before.before.before.before.before.before.before.read.ensures.1 c.before.before.slip-1.given.1 c.number_of.ensures
 
 pub typed_spec : {M : Type 1} → statement M
 typed_spec =

@@ -7,37 +7,37 @@ use borrow.Author.Rules.{rules}
 use Rattle.given.proofs.small_text.Statement.{statement}
 use Rattle.given.proofs.small_text.Tie as tie
 
-abbrev invariant-loop : tie.invariant-loop
+abbrev invariant-loop : tie.invariant-loop-k
 invariant-loop b p n k₀ k = (k ≤ n) × Ascii b p k
 
-abbrev decreases-loop : tie.decreases-loop
+abbrev decreases-loop : tie.decreases-loop-k
 decreases-loop b p n k₀ k = n - k
 
-returns : tie.Need-returns invariant-loop decreases-loop
+returns : tie.Need-returns-then-n-gt-TEXT_LIMIT invariant-loop decreases-loop
 returns c =
     let a = c.before.before.args in
-    long_text a.b.now a.p a.n c.if1.true
+    long_text a.b.now a.p a.n c.if-n-gt-TEXT_LIMIT.true
 
-loop-holds : tie.Need-loop-init invariant-loop decreases-loop
+loop-holds : tie.Need-loop-k-init invariant-loop decreases-loop
 loop-holds c = (omega arith, λ j l. absurd (not-suc-le-zero l))
 
-returns-2 : tie.Need-returns-2 invariant-loop decreases-loop
+returns-2 : tie.Need-returns-then-at-gt-LAST_BYTE invariant-loop decreases-loop
 returns-2 c =
     let a = c.before.before.before.before.before.before.args in
-    odd_text a.b.now a.p a.n c.before.before.before.loop.k (omega arith) c.before.at.ensures c.if2.true
+    odd_text a.b.now a.p a.n c.before.before.before.loop-k.k (omega arith) c.before.at.ensures c.if-at-gt-LAST_BYTE.true
 
-loop-again : tie.Need-loop-preserved invariant-loop decreases-loop
+loop-again : tie.Need-loop-k-preserved invariant-loop decreases-loop
 loop-again c =
     let a = c.before.before.before.before.before.before.args in
-    (omega arith, ascii_more a.b.now a.p c.before.before.before.loop.k c.before.at.ensures (λ z. omega arith) c.before.before.before.loop.invariant.1)
+    (omega arith, ascii_more a.b.now a.p c.before.before.before.loop-k.k c.before.at.ensures (λ z. omega arith) c.before.before.before.loop-k.invariant.1)
 
-returns-3 : tie.Need-returns-3 invariant-loop decreases-loop
+returns-3 : tie.Need-returns invariant-loop decreases-loop
 returns-3 c =
     let a = c.before.before.before.before.args in
-    small_text a.b.now a.p a.n c.before.loop.k (λ z. omega arith) (omega arith) c.before.loop.invariant.1
+    small_text a.b.now a.p a.n c.before.loop-k.k (λ z. omega arith) (omega arith) c.before.loop-k.invariant.1
 
-pub small-text-spec : {M : Type 1} → statement M
-small-text-spec =
+pub small_text_spec : {M : Type 1} → statement M
+small_text_spec =
     tie.close
     (tie.spec
     invariant-loop

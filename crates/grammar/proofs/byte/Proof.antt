@@ -13,5 +13,5 @@ returns c =
     let a = c.before.args in
     ap (λ (l : List ℕ). get_or l (97 + a.a * 10 + a.j) 0) c.before.requires.1 ∙ alternative_at a.a a.j c.before.requires.0.0 c.before.requires.0.1
 
-pub byte-spec : {M : Type 1} → statement M
-byte-spec = tie.close (tie.spec (λ c. search rules) (λ c. search rules) (λ c. search rules) (λ c. search rules) returns)
+pub byte_spec : {M : Type 1} → statement M
+byte_spec = tie.close (tie.spec (λ c. search rules) (λ c. search rules) (λ c. search rules) (λ c. search rules) returns)

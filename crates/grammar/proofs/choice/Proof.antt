@@ -11,23 +11,23 @@ use Rattle.grammar.proofs.choice.Statement.{statement}
 use Rattle.grammar.proofs.choice.Tie as tie
 
 -- where the symbol's alternatives start and end
-from : (c : tie.After-wide2) → c.before.before.wide.result ≡ get_or rows_table c.before.before.before.before.before.args.x 0
-from c = c.before.before.wide.ensures ∙ ap (λ (l : List ℕ). get_or l c.before.before.before.before.before.args.x 0) c.before.before.before.before.before.requires ∙ row_at c.before.before.before.before.before.args.x (omega arith)
+from : (c : tie.After-wide-to) → c.before.before.wide-from.result ≡ get_or rows_table c.before.before.before.before.before.args.x 0
+from c = c.before.before.wide-from.ensures ∙ ap (λ (l : List ℕ). get_or l c.before.before.before.before.before.args.x 0) c.before.before.before.before.before.requires ∙ row_at c.before.before.before.before.before.args.x (omega arith)
 
-to : (c : tie.After-wide2) → c.wide2.result ≡ get_or rows_table (c.before.before.before.before.before.args.x + 1) 0
-to c = c.wide2.ensures ∙ ap (λ (l : List ℕ). get_or l (c.before.before.before.before.before.args.x + 1) 0) c.before.before.before.before.before.requires ∙ row_at (c.before.before.before.before.before.args.x + 1) (omega arith)
+to : (c : tie.After-wide-to) → c.wide-to.result ≡ get_or rows_table (c.before.before.before.before.before.args.x + 1) 0
+to c = c.wide-to.ensures ∙ ap (λ (l : List ℕ). get_or l (c.before.before.before.before.before.args.x + 1) 0) c.before.before.before.before.before.requires ∙ row_at (c.before.before.before.before.before.args.x + 1) (omega arith)
 
 seek-requires : tie.Need-seek-requires
-seek-requires c κs = (row_bounds c.before.before.before.before.before.args.x c.before.before.before.before.if1.true c.before.before.wide.result c.wide2.result (from c) (to c), c.before.before.before.before.before.requires)
+seek-requires c κs = (row_bounds c.before.before.before.before.before.args.x c.before.before.before.before.if-x-lt-SYMBOLS.true c.before.before.wide-from.result c.wide-to.result (from c) (to c), c.before.before.before.before.before.requires)
 
-returns : tie.Need-returns
-returns c = row_choice c.before.before.before.before.before.before.args.x c.before.before.before.before.before.if1.true c.before.before.before.wide.result c.before.wide2.result (from c.before) (to c.before) c.before.before.before.before.before.before.args.k c.seek.result c.seek.ensures
+returns : tie.Need-returns-then-x-lt-SYMBOLS
+returns c = row_choice c.before.before.before.before.before.before.args.x c.before.before.before.before.before.if-x-lt-SYMBOLS.true c.before.before.before.wide-from.result c.before.wide-to.result (from c.before) (to c.before) c.before.before.before.before.before.before.args.k c.seek.result c.seek.ensures
 
-returns-2 : tie.Need-returns-2
-returns-2 c = sym (no_choice c.before.args.x c.before.args.k c.if1.false)
+returns-2 : tie.Need-returns
+returns-2 c = sym (no_choice c.before.args.x c.before.args.k c.if-x-lt-SYMBOLS.false)
 
-pub choice-spec : {M : Type 1} → statement M
-choice-spec =
+pub choice_spec : {M : Type 1} → statement M
+choice_spec =
     tie.close
     (tie.spec
     (λ c. search rules) (λ c κs. search rules) (λ c. search rules) (λ c. search rules) (λ c κs. search rules)

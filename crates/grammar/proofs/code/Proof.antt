@@ -7,11 +7,11 @@ use Rattle.grammar.specs.Reply.{form_of}
 use Rattle.grammar.proofs.code.Statement.{statement}
 use Rattle.grammar.proofs.code.Tie as tie
 
-returns : tie.Need-returns
-returns c = sym (ap (λ (s : Start). N (form_of s)) c.enum_told.given.1)
+returns : tie.Need-returns-in-Process
+returns c = sym (ap (λ (s : Start). N (form_of s)) c.enum_told-1.given.1)
 
-returns-2 : tie.Need-returns-2
-returns-2 c = sym (ap (λ (s : Start). N (form_of s)) c.enum-told2.given.1)
+returns-2 : tie.Need-returns-in-Expression
+returns-2 c = sym (ap (λ (s : Start). N (form_of s)) c.enum_told-in-Expression-1.given.1)
 
-pub code-spec : {M : Type 1} → statement M
-code-spec = tie.close (tie.spec (λ c. search rules) (λ c. search rules) returns returns-2)
+pub code_spec : {M : Type 1} → statement M
+code_spec = tie.close (tie.spec (λ c. search rules) (λ c. search rules) returns returns-2)

@@ -9,12 +9,12 @@ use Rattle.grammar.proofs.read.Tie as tie
 
 walk-requires : tie.Need-walk-requires
 walk-requires c κs =
-    ((length-set (replicate 32768 0) 32767 c.before.before.code.result ∙ length-replicate {A = ℕ} 32768 0, c.before.before.before.before.if1.false), c.before.before.before.table.ensures)
+    ((length-set (replicate 32768 0) 32767 c.before.before.code.result ∙ length-replicate {A = ℕ} 32768 0, c.before.before.before.before.if-kinds-gt-LIMIT.false), c.before.before.before.table-t.ensures)
 
-returns-2 : tie.Need-returns-2
+returns-2 : tie.Need-returns
 returns-2 c =
     let a = c.before.before.before.before.before.before.before.args in
-    reply a.start a.kinds.now (replicate 32768 0) c.before.before.before.code.result c.walk.result c.before.before.before.before.before.if1.false (length-replicate {A = ℕ} 32768 0) c.before.before.before.code.ensures c.walk.ensures
+    reply a.start a.kinds.now (replicate 32768 0) c.before.before.before.code.result c.walk.result c.before.before.before.before.before.if-kinds-gt-LIMIT.false (length-replicate {A = ℕ} 32768 0) c.before.before.before.code.ensures c.walk.ensures
 
 pub read_spec : {M : Type 1} → statement M
 read_spec =

@@ -10,35 +10,35 @@ use Rattle.grammar.proofs.MachineLaws.{syms, past_stays, past_goes, past_end}
 use Rattle.grammar.proofs.skip.Statement.{statement}
 use Rattle.grammar.proofs.skip.Tie as tie
 
-abbrev invariant-loop : tie.invariant-loop
+abbrev invariant-loop : tie.invariant-loop-at
 invariant-loop t stack top k at₀ at = ((top ≤ at) × (at ≤ 32768)) × (past k (syms top stack) ≡ past k (syms at stack))
 
-abbrev decreases-loop : tie.decreases-loop
+abbrev decreases-loop : tie.decreases-loop-at
 decreases-loop t stack top k at₀ at = 32768 - at
 
-loop-holds : tie.Need-loop-init invariant-loop decreases-loop
+loop-holds : tie.Need-loop-at-init invariant-loop decreases-loop
 loop-holds c = (search rules, refl)
 
-returns : tie.Need-returns invariant-loop decreases-loop
+returns : tie.Need-returns-then-not-passes invariant-loop decreases-loop
 returns c =
     let n = c.before.before.before.before.before.requires.0.0 in
-    let l : c.before.before.before.before.loop.at < length c.before.before.before.before.before.args.stack.now = omega arith in
-    (search rules, past_stays c.before.before.before.before.before.args.stack.now c.before.before.before.before.loop.at l c.before.before.before.before.before.args.k (sym (not-true _ c.if1.true) ∙ c.before.passes.ensures) ∙ sym c.before.before.before.before.loop.invariant.1)
+    let l : c.before.before.before.before.loop-at.at < length c.before.before.before.before.before.args.stack.now = omega arith in
+    (search rules, past_stays c.before.before.before.before.before.args.stack.now c.before.before.before.before.loop-at.at l c.before.before.before.before.before.args.k (sym (not-true _ c.if-not-passes.true-raw) ∙ c.before.passes.ensures) ∙ sym c.before.before.before.before.loop-at.invariant.1)
 
-loop-again : tie.Need-loop-preserved invariant-loop decreases-loop
+loop-again : tie.Need-loop-at-preserved invariant-loop decreases-loop
 loop-again c =
     let n = c.before.before.before.before.before.requires.0.0 in
-    let l : c.before.before.before.before.loop.at < length c.before.before.before.before.before.args.stack.now = omega arith in
-    (search rules, c.before.before.before.before.loop.invariant.1 ∙ past_goes c.before.before.before.before.before.args.stack.now c.before.before.before.before.loop.at l c.before.before.before.before.before.args.k (sym (not-false _ c.if1.false) ∙ c.before.passes.ensures))
+    let l : c.before.before.before.before.loop-at.at < length c.before.before.before.before.before.args.stack.now = omega arith in
+    (search rules, c.before.before.before.before.loop-at.invariant.1 ∙ past_goes c.before.before.before.before.before.args.stack.now c.before.before.before.before.loop-at.at l c.before.before.before.before.before.args.k (sym (not-false _ c.if-not-passes.false-raw) ∙ c.before.passes.ensures))
 
-returns-2 : tie.Need-returns-2 invariant-loop decreases-loop
+returns-2 : tie.Need-returns invariant-loop decreases-loop
 returns-2 c =
     let n = c.before.before.requires.0.0 in
-    let l : length c.before.before.args.stack.now ≤ c.before.loop.at = omega arith in
-    (search rules, past_end c.before.before.args.stack.now c.before.loop.at c.before.before.args.k l ∙ sym c.before.loop.invariant.1)
+    let l : length c.before.before.args.stack.now ≤ c.before.loop-at.at = omega arith in
+    (search rules, past_end c.before.before.args.stack.now c.before.loop-at.at c.before.before.args.k l ∙ sym c.before.loop-at.invariant.1)
 
-pub skip-spec : {M : Type 1} → statement M
-skip-spec =
+pub skip_spec : {M : Type 1} → statement M
+skip_spec =
     tie.close
     (tie.spec
     invariant-loop

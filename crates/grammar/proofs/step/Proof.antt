@@ -8,69 +8,69 @@ use Rattle.grammar.proofs.MachineLaws.{none_left, taken, another, no_alternative
 use Rattle.grammar.proofs.step.Statement.{statement}
 use Rattle.grammar.proofs.step.Tie as tie
 
-returns : tie.Need-returns
+returns : tie.Need-returns-then-at-eq-STACK
 returns c =
     let a = c.before.before.before.args in
-    let s = c.before.skip in
+    let s = c.before.skip-at in
     let n = c.before.before.before.requires.0.0 in
     let l : length a.stack.now ≤ s.result = omega arith in
     none_left a.stack.now a.top s.result a.k s.ensures.1 l
 
-returns-2 : tie.Need-returns-2
+returns-2 : tie.Need-returns-then-c-k
 returns-2 c =
     let a = c.before.before.before.before.before.before.args in
-    let s = c.before.before.before.before.skip in
+    let s = c.before.before.before.before.skip-at in
     let n = c.before.before.before.before.before.before.requires.0.0 in
     let b = s.ensures.0 in
     let l : s.result < length a.stack.now = omega arith in
-    ((n, omega arith, omega arith), taken a.stack.now a.top s.result a.k s.ensures.1 l c.before.if2.true c.if3.true)
+    ((n, omega arith, omega arith), taken a.stack.now a.top s.result a.k s.ensures.1 l c.before.if-c-lt-SYMBOL.true c.if-c-k.true)
 
-returns-3 : tie.Need-returns-3
+returns-3 : tie.Need-returns-then-c-lt-SYMBOL
 returns-3 c =
     let a = c.before.before.before.before.before.before.args in
-    let s = c.before.before.before.before.skip in
+    let s = c.before.before.before.before.skip-at in
     let n = c.before.before.before.before.before.before.requires.0.0 in
     let b = s.ensures.0 in
     let l : s.result < length a.stack.now = omega arith in
-    another a.stack.now a.top s.result a.k s.ensures.1 l c.before.if2.true c.if3.false
+    another a.stack.now a.top s.result a.k s.ensures.1 l c.before.if-c-lt-SYMBOL.true c.if-c-k.false
 
-returns-4 : tie.Need-returns-4
+returns-4 : tie.Need-returns-then-a-eq0
 returns-4 c =
     let a = c.before.before.before.before.before.before.before.before.args in
-    let s = c.before.before.before.before.before.before.skip in
+    let s = c.before.before.before.before.before.before.skip-at in
     let n = c.before.before.before.before.before.before.before.before.requires.0.0 in
     let b = s.ensures.0 in
     let l : s.result < length a.stack.now = omega arith in
-    no_alternative a.stack.now a.top s.result a.k s.ensures.1 l (c.before.before.wide.result - 128) c.before.choice.result c.before.before.before.if2.false (ap (λ (x : ℕ). x - 128) c.before.before.wide.ensures) c.before.choice.ensures c.if4.true
+    no_alternative a.stack.now a.top s.result a.k s.ensures.1 l (c.before.before.wide.result - 128) c.before.choice-a.result c.before.before.before.if-c-lt-SYMBOL.false (ap (λ (x : ℕ). x - 128) c.before.before.wide.ensures) c.before.choice-a.ensures c.if-a-eq0.true
 
 push-requires : tie.Need-push-requires
 push-requires c κs =
     let a = c.before.before.before.before.before.before.before.before.before.args in
-    let s = c.before.before.before.before.before.before.before.skip in
+    let s = c.before.before.before.before.before.before.before.skip-at in
     let n = c.before.before.before.before.before.before.before.before.before.requires.0.0 in
     let t = c.before.before.before.before.before.before.before.before.before.requires.0.1 in
     let b = s.ensures.0 in
-    let z = c.before.if4.false in
+    let z = c.before.if-a-eq0.false in
     let l : s.result < length a.stack.now = omega arith in
-    let i = in_table a.stack.now a.top s.result a.k s.ensures.1 l (c.before.before.before.wide.result - 128) c.before.before.choice.result c.before.before.before.before.if2.false (ap (λ (x : ℕ). x - 128) c.before.before.before.wide.ensures) c.before.before.choice.ensures z in
+    let i = in_table a.stack.now a.top s.result a.k s.ensures.1 l (c.before.before.before.wide.result - 128) c.before.before.choice-a.result c.before.before.before.before.if-c-lt-SYMBOL.false (ap (λ (x : ℕ). x - 128) c.before.before.before.wide.ensures) c.before.before.choice-a.ensures z in
     ((n, omega arith, omega arith, omega arith), c.before.before.before.before.before.before.before.before.before.requires.1)
 
-returns-5 : tie.Need-returns-5
+returns-5 : tie.Need-returns
 returns-5 c =
     let a = c.before.before.before.before.before.before.before.before.before.before.args in
-    let s = c.before.before.before.before.before.before.before.before.skip in
+    let s = c.before.before.before.before.before.before.before.before.skip-at in
     let n = c.before.before.before.before.before.before.before.before.before.before.requires.0.0 in
     let b = s.ensures.0 in
-    let z = c.before.before.if4.false in
+    let z = c.before.before.if-a-eq0.false in
     let p = c.push in
     let w = c.before.before.before.before.wide.ensures in
-    let g = c.before.before.before.before.before.if2.false in
+    let g = c.before.before.before.before.before.if-c-lt-SYMBOL.false in
     let l : s.result < length a.stack.now = omega arith in
     let p1 = p.ensures.1 in
     let p2 = p.ensures.2 in
     let e = ap (λ (x : ℕ). x - 128) w in (
       (p.ensures.0, omega arith, omega arith),
-      replaced a.stack.now a.top s.result a.k s.ensures.1 l (c.before.before.before.before.wide.result - 128) c.before.before.before.choice.result g e c.before.before.before.choice.ensures z _ p.result p.ensures.3,
+      replaced a.stack.now a.top s.result a.k s.ensures.1 l (c.before.before.before.before.wide.result - 128) c.before.before.before.choice-a.result g e c.before.before.before.choice-a.ensures z _ p.result p.ensures.3,
     )
 
 pub step_spec : {M : Type 1} → statement M

@@ -7,17 +7,17 @@ use borrow.Author.Rules.{rules}
 use Rattle.guideline_turns.proofs.after.Statement.{statement}
 use Rattle.guideline_turns.proofs.after.Tie as tie
 
-returns : tie.Need-returns
-returns c = λ k u h. by_kind c.before.before.kind_at.result c.before.before.kind_at.ensures (ap (shape behind) c.before.if1.true) (subst (Passes closing _ _ _ _ _) (sym c.on.ensures) (closing_passes c.before.before.before.before.before.before.before.requires k u h))
+returns : tie.Need-returns-then-k-eq-RIGHT_PARENTHESIS
+returns c = λ k u h. by_kind c.before.before.kind_at-k.result c.before.before.kind_at-k.ensures (ap (shape behind) c.before.if-k-eq-RIGHT_PARENTHESIS.true) (subst (Passes closing _ _ _ _ _) (sym c.on.ensures) (closing_passes c.before.before.before.before.before.before.before.requires k u h))
 
-returns-2 : tie.Need-returns-2
-returns-2 c = λ k u h. by_kind c.before.before.before.kind_at.result c.before.before.before.kind_at.ensures (behind_and c.before.before.before.kind_at.result c.before.before.if1.false c.before.if2.true) (subst (Passes going_on _ _ _ _ _) (sym c.on2.ensures) (going_on_passes c.before.before.before.before.before.before.before.before.requires k u h))
+returns-2 : tie.Need-returns-then-k-eq-AND
+returns-2 c = λ k u h. by_kind c.before.before.before.kind_at-k.result c.before.before.before.kind_at-k.ensures (behind_and c.before.before.before.kind_at-k.result c.before.before.if-k-eq-RIGHT_PARENTHESIS.false c.before.if-k-eq-AND.true) (subst (Passes going_on _ _ _ _ _) (sym c.on-then-k-eq-AND.ensures) (going_on_passes c.before.before.before.before.before.before.before.before.requires k u h))
 
-returns-3 : tie.Need-returns-3
-returns-3 c = λ k u h. by_kind c.before.before.before.kind_at.result c.before.before.before.kind_at.ensures (behind_last c.before.before.before.kind_at.result c.before.before.if1.false c.before.if2.false) (subst (Passes finish _ _ _ _ _) (sym c.on3.ensures) (finish_passes c.before.before.before.before.before.before.before.before.requires k u h))
+returns-3 : tie.Need-returns
+returns-3 c = λ k u h. by_kind c.before.before.before.kind_at-k.result c.before.before.before.kind_at-k.ensures (behind_last c.before.before.before.kind_at-k.result c.before.before.if-k-eq-RIGHT_PARENTHESIS.false c.before.if-k-eq-AND.false) (subst (Passes finish _ _ _ _ _) (sym c.on-2.ensures) (finish_passes c.before.before.before.before.before.before.before.before.requires k u h))
 
-pub after-spec : {M : Type 1} → statement M
-after-spec =
+pub after_spec : {M : Type 1} → statement M
+after_spec =
     tie.close
     (tie.spec
     (λ c κs. search rules) (λ c. search rules) (λ c κs. search rules)

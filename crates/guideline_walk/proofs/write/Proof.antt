@@ -8,21 +8,21 @@ use borrow.Author.Rules.{rules}
 use Rattle.guideline_walk.proofs.write.Statement.{statement}
 use Rattle.guideline_walk.proofs.write.Tie as tie
 
-returns : tie.Need-returns
+returns : tie.Need-returns-then-not-t
 returns c =
-    let n = not-true _ c.if1.true in
+    let n = not-true _ c.if-not-t.true in
     record { none = λ e. (refl, refl, refl, refl); adds = λ e. contra (sym n ∙ e); laid = λ kinds j u row told sd lx lj few room ft. contra (sym n ∙ told.row) }
 
 add-requires : tie.Need-add-requires
 add-requires c κs = c.before.before.before.before.before.before.before.before.before.before.before.before.before.before.before.before.before.before.before.before.before.before.before.requires
 
-returns-2 : tie.Need-returns-2
+returns-2 : tie.Need-returns
 returns-2 c =
-    let n = not-false _ c.before.before.before.before.before.before.before.before.before.before.before.before.before.before.before.before.if1.false in
+    let n = not-false _ c.before.before.before.before.before.before.before.before.before.before.before.before.before.before.before.before.if-not-t.false in
     record {
       none = λ e. contra (sym e ∙ n);
       adds = λ e. adds_own c.add.ensures;
-      laid = λ kinds j u row told sd lx lj few room ft. row_laid told sd lx lj few room ft c.before.before.before.before.before.before.before.before.before.before.before.before.before.before.move-name.ensures c.before.before.before.before.before.before.before.before.before.move-texts.ensures c.before.before.before.put.ensures c.add.ensures.bytes;
+      laid = λ kinds j u row told sd lx lj few room ft. row_laid told sd lx lj few room ft c.before.before.before.before.before.before.before.before.before.before.before.before.before.before.move_name-m.ensures c.before.before.before.before.before.before.before.before.before.move_texts-o.ensures c.before.before.before.put.ensures c.add.ensures.bytes-1;
     }
 
 pub write_spec : {M : Type 1} → statement M

@@ -11,30 +11,30 @@ use Rattle.lines.proofs.Taking.{at_end, at_newline, at_byte}
 use Rattle.lines.proofs.take.Statement.{statement}
 use Rattle.lines.proofs.take.Tie as tie
 
-abbrev invariant-loop : tie.invariant-loop
+abbrev invariant-loop : tie.invariant-loop-at
 invariant-loop chunk from kept₀ n at₀ count₀ kept at count =
     (length kept ≡ length kept₀) × ((kept' : List _) (r : Taken) → Takes chunk at kept count kept' r → Takes chunk from kept₀ n kept' r)
 
-abbrev decreases-loop : tie.decreases-loop
+abbrev decreases-loop : tie.decreases-loop-at
 decreases-loop chunk from kept₀ n at₀ count₀ kept at count = length chunk - at
 
-loop-holds : tie.Need-loop-init invariant-loop decreases-loop
+loop-holds : tie.Need-loop-at-init invariant-loop decreases-loop
 loop-holds c = (refl, λ _ _ h. h)
 
-returns : tie.Need-returns invariant-loop decreases-loop
+returns : tie.Need-returns-then-b-eq10 invariant-loop decreases-loop
 returns c =
-    let l = c.before.before.before.loop in
-    l.invariant.1 _ _ (at_newline _ _ c.before.before.loop-test.true c.if1.true)
+    let l = c.before.before.before.loop-at in
+    l.invariant.1 _ _ (at_newline _ _ c.before.before.loop-at-test.true c.if-b-eq10.true)
 
-loop-again : tie.Need-loop-preserved invariant-loop decreases-loop
+loop-again : tie.Need-loop-at-preserved invariant-loop decreases-loop
 loop-again c =
-    let l = c.before.before.before.before.before.before.before.loop in
-    let on = c.before.before.before.before.before.before.loop-test.true in
-    let other = c.before.before.before.before.if1.false in
-    (search rules, λ kept' r t. l.invariant.1 kept' r (at_byte _ _ on other c.before.before.keep.ensures t))
+    let l = c.before.before.before.before.before.before.before.loop-at in
+    let on = c.before.before.before.before.before.before.loop-at-test.true in
+    let other = c.before.before.before.before.if-b-eq10.false in
+    (search rules, λ kept' r t. l.invariant.1 kept' r (at_byte _ _ on other c.before.before.keep-count.ensures t))
 
-returns-2 : tie.Need-returns-2 invariant-loop decreases-loop
-returns-2 c = let l = c.before.loop in l.invariant.1 _ _ (at_end c.loop-test.false)
+returns-2 : tie.Need-returns invariant-loop decreases-loop
+returns-2 c = let l = c.before.loop-at in l.invariant.1 _ _ (at_end c.loop-at-test.false)
 
 pub take_spec : {M : Type 1} → statement M
 take_spec =

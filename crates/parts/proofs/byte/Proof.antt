@@ -5,8 +5,8 @@ use borrow.Author.Rules.{rules}
 use Rattle.parts.proofs.byte.Statement.{statement}
 use Rattle.parts.proofs.byte.Tie as tie
 
-returns-2 : tie.Need-returns-2
-returns-2 c = sym (get_or-eq_default c.before.args.col.now 0 c.if1.false)
+returns-2 : tie.Need-returns
+returns-2 c = sym (get_or-eq_default c.before.args.col.now 0 c.if-i-col.false)
 
-pub byte-spec : {M : Type 1} → statement M
-byte-spec = tie.close (tie.spec (λ c. search rules) (λ c. search rules) returns-2)
+pub byte_spec : {M : Type 1} → statement M
+byte_spec = tie.close (tie.spec (λ c. search rules) (λ c. search rules) returns-2)

@@ -10,5 +10,5 @@ use Rattle.parts.proofs.code.Tie as tie
 returns : tie.Need-returns
 returns c = c.cell.ensures ∙ ap (λ (i : ℕ). get_or c.before.before.args.cells.now i 0) (omega arith)
 
-pub code-spec : {M : Type 1} → statement M
-code-spec = tie.close (tie.spec (λ c κs. search rules) (λ c. search rules) returns)
+pub code_spec : {M : Type 1} → statement M
+code_spec = tie.close (tie.spec (λ c κs. search rules) (λ c. search rules) returns)

@@ -14,11 +14,11 @@ small c = omega (arith, c.ranges.x)
 wide : (c : tie.Start) → c.args.x < 2 ^ 63
 wide c = omega (arith, c.ranges.x)
 
-sub-result : tie.Need-overflow-sub-result
+sub-result : tie.Need-overflow_sub-result
 sub-result c = simp (to_z_pos w64 (wide c)) (literal_fits _ (small c))
 
 returns : tie.Need-returns
 returns c = simp (to_z_pos w64 (wide c)) (to_z-of_z (literal_fits _ (small c)))
 
-pub literal-spec : {M : Type 1} → statement M
-literal-spec = tie.close (tie.spec (λ c. search rules) sub-result returns)
+pub literal_spec : {M : Type 1} → statement M
+literal_spec = tie.close (tie.spec (λ c. search rules) sub-result returns)

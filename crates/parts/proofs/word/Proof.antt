@@ -5,8 +5,8 @@ use borrow.Author.Rules.{rules}
 use Rattle.parts.proofs.word.Statement.{statement}
 use Rattle.parts.proofs.word.Tie as tie
 
-returns-2 : tie.Need-returns-2
-returns-2 c = sym (get_or-eq_default c.before.args.col.now 0 c.if1.false)
+returns-2 : tie.Need-returns
+returns-2 c = sym (get_or-eq_default c.before.args.col.now 0 c.if-i-col.false)
 
-pub word-spec : {M : Type 1} → statement M
-word-spec = tie.close (tie.spec (λ c. search rules) (λ c. search rules) (λ c. search rules) returns-2)
+pub word_spec : {M : Type 1} → statement M
+word_spec = tie.close (tie.spec (λ c. search rules) (λ c. search rules) (λ c. search rules) returns-2)

@@ -6,10 +6,10 @@ use borrow.Author.Rules.{rules}
 use Rattle.pieces.proofs.write.Statement.{statement}
 use Rattle.pieces.proofs.write.Tie as tie
 
-abbrev invariant-loop : tie.invariant-loop
+abbrev invariant-loop : tie.invariant-loop-i
 invariant-loop fd words n from₀ i₀ from i = from ≤ length words
 
-abbrev decreases-loop : tie.decreases-loop
+abbrev decreases-loop : tie.decreases-loop-i
 decreases-loop fd words n from₀ i₀ from i = n - i
 
 pub write_spec : {M : Type 1} → statement M

@@ -4,11 +4,11 @@ use borrow.Author.Tests.{eq-eqb, ne_eqb}
 use Rattle.plan_entries.proofs.confirms.Statement.{statement}
 use Rattle.plan_entries.proofs.confirms.Tie as tie
 
-returns : tie.Need-returns
-returns c = rw (eq-eqb c.before.args.class 1 c.if1.true)
+returns : tie.Need-returns-then-class-eq-ACTION
+returns c = rw (eq-eqb c.before.args.class 1 c.if-class-eq-ACTION.true)
 
-returns-2 : tie.Need-returns-2
-returns-2 c = rw (ne_eqb c.before.args.class 1 c.if1.false)
+returns-2 : tie.Need-returns
+returns-2 c = rw (ne_eqb c.before.args.class 1 c.if-class-eq-ACTION.false)
 
-pub confirms-spec : {M : Type 1} → statement M
-confirms-spec = tie.close (tie.spec returns returns-2)
+pub confirms_spec : {M : Type 1} → statement M
+confirms_spec = tie.close (tie.spec returns returns-2)

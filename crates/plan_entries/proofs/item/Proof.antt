@@ -13,9 +13,9 @@ returns c = λ n b h m q.
     let s = h.stands in
     let l = few_items h in
     let e = c.before.before.before.before.before.before.before.before.before.before.before.before.before.before.more.ensures l in
-    putting c.before.before.put3.ensures item_type refl refl s.items c.before.before.before.cell2.ensures
-    (putting c.before.before.before.before.before.before.before.put2.ensures item_name refl refl s.items c.before.before.before.before.before.before.before.before.cell.ensures
+    putting c.before.before.put-3.ensures item_type refl refl s.items c.before.before.before.cell-2.ensures
+    (putting c.before.before.before.before.before.before.before.put-2.ensures item_name refl refl s.items c.before.before.before.before.before.before.before.before.cell.ensures
     (putting c.before.before.before.before.before.before.before.before.before.before.before.before.put.ensures item_count refl refl refl (c.before.before.before.before.before.before.before.before.before.before.before.before.before.short.ensures (omega arith) ∙ e ∙ ap (λ (t : ℕ). t + 1) s.items) q))
 
-pub item-spec : {M : Type 1} → statement M
-item-spec = tie.close (tie.spec (λ c κs. search rules) (λ c κs. search rules) (λ c κs. search rules) (λ c κs. search rules) (λ c κs. search rules) (λ c κs. search rules) (λ c κs. search rules) (λ c. search rules) returns)
+pub item_spec : {M : Type 1} → statement M
+item_spec = tie.close (tie.spec (λ c κs. search rules) (λ c κs. search rules) (λ c κs. search rules) (λ c κs. search rules) (λ c κs. search rules) (λ c κs. search rules) (λ c κs. search rules) (λ c. search rules) returns)

@@ -11,5 +11,5 @@ use Rattle.plan_entries.proofs.mandatory.Tie as tie
 returns : tie.Need-returns
 returns c = λ n b h m q. putting c.before.before.put.ensures mandatory refl refl (c.before.before.before.before.less.ensures ∙ ap (λ (t : ℕ). t - 1) h.stands.sources) c.before.before.before.cell.ensures q
 
-pub mandatory-spec : {M : Type 1} → statement M
-mandatory-spec = tie.close (tie.spec (λ c κs. search rules) (λ c κs. search rules) (λ c κs. search rules) (λ c. search rules) returns)
+pub mandatory_spec : {M : Type 1} → statement M
+mandatory_spec = tie.close (tie.spec (λ c κs. search rules) (λ c κs. search rules) (λ c κs. search rules) (λ c. search rules) returns)

@@ -5,11 +5,11 @@ use borrow.Author.Tests.{eq-eqb, ne_eqb}
 use Rattle.plan_entries.proofs.name_of.Statement.{statement}
 use Rattle.plan_entries.proofs.name_of.Tie as tie
 
-returns : tie.Need-returns
-returns c = rw (eq-eqb c.before.before.args.t 0 c.if1.true)
+returns : tie.Need-returns-then-t-eq0
+returns c = rw (eq-eqb c.before.before.args.t 0 c.if-t-eq0.true)
 
-returns-2 : tie.Need-returns-2
-returns-2 c = rw (ne_eqb c.before.before.before.args.t 0 c.before.if1.false) c.cell.ensures
+returns-2 : tie.Need-returns
+returns-2 c = rw (ne_eqb c.before.before.before.args.t 0 c.before.if-t-eq0.false) c.cell.ensures
 
-pub name-of-spec : {M : Type 1} → statement M
-name-of-spec = tie.close (tie.spec returns (λ c κs. search rules) returns-2)
+pub name_of_spec : {M : Type 1} → statement M
+name_of_spec = tie.close (tie.spec returns (λ c κs. search rules) returns-2)

@@ -17,13 +17,13 @@ returns c = λ n h t m q.
     let a = c.before.before.before.before.before.before.before.before.before.before.before.before.before.before.before.before.before.before.before.args in
     let s = h.stands in
     let l = few_sources h in
-    let i = found_number t a.bytes.now false (cell_of a.rows.now a.k 2) (subst (λ (z : ℕ). Finds a.rows.now a.bytes.now a.items.now a.d false z c.before.before.before.before.before.before.before.before.before.before.before.before.before.find.result) c.before.before.before.before.before.before.before.before.before.before.before.before.before.before.handle.ensures c.before.before.before.before.before.before.before.before.before.before.before.before.before.find.ensures) in
+    let i = found_number t a.bytes.now false (cell_of a.rows.now a.k 2) (subst (λ (z : ℕ). Finds a.rows.now a.bytes.now a.items.now a.d false z c.before.before.before.before.before.before.before.before.before.before.before.before.before.find-i.result) c.before.before.before.before.before.before.before.before.before.before.before.before.before.before.handle.ensures c.before.before.before.before.before.before.before.before.before.before.before.before.before.find-i.ensures) in
     let e = c.before.before.before.before.before.before.before.before.before.before.before.before.more.ensures l in
-    let z = c.before.before.before.before.before.before.before.before.before.before.before.less.ensures in
+    let z = c.before.before.before.before.before.before.before.before.before.before.before.less-z.ensures in
     let u = s.sources in
     let v = s.sourced in
-    putting c.before.before.put2.ensures source_count refl refl (c.before.before.before.before.less2.ensures ∙ ap (λ (j : ℕ). j - 1) s.tasks) (c.before.before.before.short2.ensures (omega arith) ∙ omega arith)
+    putting c.before.before.put-2.ensures source_count refl refl (c.before.before.before.before.less.ensures ∙ ap (λ (j : ℕ). j - 1) s.tasks) (c.before.before.before.short-2.ensures (omega arith) ∙ omega arith)
     (putting c.before.before.before.before.before.before.before.before.put.ensures source_item refl refl s.sources (c.before.before.before.before.before.before.before.before.before.short.ensures (few_found h is_data _ i) ∙ i) q)
 
-pub source-spec : {M : Type 1} → statement M
-source-spec = tie.close (tie.spec (λ c κs. search rules) (λ c κs. search rules) (λ c κs. search rules) (λ c κs. search rules) (λ c κs. search rules) (λ c κs. search rules) (λ c κs. search rules) (λ c κs. search rules) (λ c κs. search rules) (λ c. search rules) returns)
+pub source_spec : {M : Type 1} → statement M
+source_spec = tie.close (tie.spec (λ c κs. search rules) (λ c κs. search rules) (λ c κs. search rules) (λ c κs. search rules) (λ c κs. search rules) (λ c κs. search rules) (λ c κs. search rules) (λ c κs. search rules) (λ c κs. search rules) (λ c. search rules) returns)

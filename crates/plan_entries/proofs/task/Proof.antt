@@ -17,11 +17,11 @@ returns c = λ n b h m q.
     let s = h.stands in
     let l = few_tasks h in
     let e = c.before.before.before.before.before.before.before.before.before.before.before.before.before.before.before.before.before.before.before.before.before.before.before.more.ensures l in
-    putting c.before.before.put5.ensures name refl refl s.tasks (c.before.before.before.name_of.ensures ∙ ap (λ (t : ℕ). cond (eqb t 0) 0 (cell_of a.rows.now a.k 2)) s.tasks)
-    (putting c.before.before.before.before.before.before.before.put4.ensures first_assignment refl refl s.tasks (c.before.before.before.before.before.before.before.before.short3.ensures (let z = few_assignments h in omega arith) ∙ s.assignments)
-    (putting c.before.before.before.before.before.before.before.before.before.before.before.before.put3.ensures first_source refl refl s.tasks (c.before.before.before.before.before.before.before.before.before.before.before.before.before.short2.ensures (let z = few_sources h in omega arith) ∙ s.sources)
-    (putting c.before.before.before.before.before.before.before.before.before.before.before.before.before.before.before.before.before.put2.ensures class refl refl s.tasks refl
+    putting c.before.before.put-5.ensures name refl refl s.tasks (c.before.before.before.name_of.ensures ∙ ap (λ (t : ℕ). cond (eqb t 0) 0 (cell_of a.rows.now a.k 2)) s.tasks)
+    (putting c.before.before.before.before.before.before.before.put-4.ensures first_assignment refl refl s.tasks (c.before.before.before.before.before.before.before.before.short-3.ensures (let z = few_assignments h in omega arith) ∙ s.assignments)
+    (putting c.before.before.before.before.before.before.before.before.before.before.before.before.put-3.ensures first_source refl refl s.tasks (c.before.before.before.before.before.before.before.before.before.before.before.before.before.short-2.ensures (let z = few_sources h in omega arith) ∙ s.sources)
+    (putting c.before.before.before.before.before.before.before.before.before.before.before.before.before.before.before.before.before.put-2.ensures class refl refl s.tasks refl
     (putting c.before.before.before.before.before.before.before.before.before.before.before.before.before.before.before.before.before.before.before.before.before.put.ensures task_count refl refl refl (c.before.before.before.before.before.before.before.before.before.before.before.before.before.before.before.before.before.before.before.before.before.before.short.ensures (omega arith) ∙ e ∙ ap (λ (t : ℕ). t + 1) s.tasks) q))))
 
-pub task-spec : {M : Type 1} → statement M
-task-spec = tie.close (tie.spec (λ c κs. search rules) (λ c κs. search rules) (λ c κs. search rules) (λ c κs. search rules) (λ c κs. search rules) (λ c κs. search rules) (λ c κs. search rules) (λ c κs. search rules) (λ c κs. search rules) (λ c κs. search rules) (λ c. search rules) returns)
+pub task_spec : {M : Type 1} → statement M
+task_spec = tie.close (tie.spec (λ c κs. search rules) (λ c κs. search rules) (λ c κs. search rules) (λ c κs. search rules) (λ c κs. search rules) (λ c κs. search rules) (λ c κs. search rules) (λ c κs. search rules) (λ c κs. search rules) (λ c κs. search rules) (λ c. search rules) returns)

@@ -11,5 +11,5 @@ use Rattle.plan_entries.proofs.terminal.Tie as tie
 returns : tie.Need-returns
 returns c = λ n b h m q. putting c.before.before.put.ensures terminal refl refl h.stands.child c.before.before.before.cell.ensures q
 
-pub terminal-spec : {M : Type 1} → statement M
-terminal-spec = tie.close (tie.spec (λ c κs. search rules) (λ c κs. search rules) (λ c. search rules) returns)
+pub terminal_spec : {M : Type 1} → statement M
+terminal_spec = tie.close (tie.spec (λ c κs. search rules) (λ c κs. search rules) (λ c. search rules) returns)

@@ -4,11 +4,11 @@ use Rattle.resolution.proofs.Steps.{exact_found, exact_missing}
 use Rattle.resolution.proofs.resolve.Statement.{statement}
 use Rattle.resolution.proofs.resolve.Tie as tie
 
-returns : tie.Need-returns
-returns c = exact_found _ _ _ c.before.first.ensures c.if1.true
+returns : tie.Need-returns-then-exact-ne0
+returns c = exact_found _ _ _ c.before.first-exact.ensures c.if-exact-ne0.true
 
-returns-2 : tie.Need-returns-2
-returns-2 c = exact_missing _ _ _ _ c.before.before.first.ensures c.before.if1.false c.first2.ensures
+returns-2 : tie.Need-returns
+returns-2 c = exact_missing _ _ _ _ c.before.before.first-exact.ensures c.before.if-exact-ne0.false c.first.ensures
 
-pub resolve-spec : {M : Type 1} → statement M
-resolve-spec = tie.close (tie.spec (λ c κs. search rules) returns (λ c κs. search rules) returns-2)
+pub resolve_spec : {M : Type 1} → statement M
+resolve_spec = tie.close (tie.spec (λ c κs. search rules) returns (λ c κs. search rules) returns-2)

@@ -10,30 +10,30 @@ use borrow.Author.Rules.{rules}
 use Rattle.square.proofs.unpack.Statement.{statement}
 use Rattle.square.proofs.unpack.Tie as tie
 
-abbrev invariant-loop : tie.invariant-loop
+abbrev invariant-loop : tie.invariant-loop-i
 invariant-loop bytes w₀ i₀ w i = (i ≤ 32) × (length w ≡ 32) × Upto (λ (k : ℕ). row_of bytes (32 * k)) [] i w
 
-abbrev decreases-loop : tie.decreases-loop
+abbrev decreases-loop : tie.decreases-loop-i
 decreases-loop bytes w₀ i₀ w i = 32 - i
 
-loop-holds : tie.Need-loop-init invariant-loop decreases-loop
+loop-holds : tie.Need-loop-i-init invariant-loop decreases-loop
 loop-holds c = (omega arith, refl, λ i l. absurd (not-suc-le-zero l))
 
-loop-again : tie.Need-loop-preserved invariant-loop decreases-loop
+loop-again : tie.Need-loop-i-preserved invariant-loop decreases-loop
 loop-again c =
     let a = c.before.before.before.before.args in
-    let lp = c.before.before.loop in
+    let lp = c.before.before.loop-i in
     let size = lp.invariant.1 in
     (omega arith, length-set lp.w lp.i _ ∙ size, upto_more (λ (k : ℕ). row_of a.bytes.now (32 * k)) [] lp.w lp.i (omega arith) c.row.ensures lp.invariant.2)
 
 returns : tie.Need-returns invariant-loop decreases-loop
 returns c =
     let a = c.before.before.before.args in
-    let lp = c.before.loop in
+    let lp = c.before.loop-i in
     upto_all (λ (k : ℕ). row_of a.bytes.now (32 * k)) [] lp.w 32 lp.i lp.invariant.1 (omega arith) lp.invariant.2
 
-pub unpack-spec : {M : Type 1} → statement M
-unpack-spec =
+pub unpack_spec : {M : Type 1} → statement M
+unpack_spec =
     tie.close
     (tie.spec
     invariant-loop

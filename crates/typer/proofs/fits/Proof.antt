@@ -5,7 +5,7 @@ use Rattle.typer.proofs.fits.Statement.{statement}
 use Rattle.typer.proofs.fits.Tie as tie
 
 returns : tie.Need-returns
-returns c = fits_found c.before.type_of.ensures c.suits.ensures
+returns c = fits_found c.before.type_of-found.ensures c.suits.ensures
 
-pub fits-spec : {M : Type 1} → statement M
-fits-spec = tie.close (tie.spec (λ c κs. search rules) (λ c κs. search rules) returns)
+pub fits_spec : {M : Type 1} → statement M
+fits_spec = tie.close (tie.spec (λ c κs. search rules) (λ c κs. search rules) returns)

@@ -7,19 +7,19 @@ use Rattle.types.specs.JudgedLaws.{too_long, too_many, concluded}
 use Rattle.types.proofs.check.Statement.{statement}
 use Rattle.types.proofs.check.Tie as tie
 
-returns : tie.Need-returns
-returns c = let a = c.before.before.before.before.args in too_long a.rows.now a.n (table a.cells.now a.bytes.now) c.if1.true
+returns : tie.Need-returns-then-n-gt-ROWS
+returns c = let a = c.before.before.before.before.args in too_long a.rows.now a.n (table a.cells.now a.bytes.now) c.if-n-gt-ROWS.true
 
-returns-2 : tie.Need-returns-2
-returns-2 c = let a = c.before.before.before.before.before.before.before.before.before.before.args in too_many (table a.cells.now a.bytes.now) c.before.before.before.gather.ensures c.if2.true
+returns-2 : tie.Need-returns-then-m-gt-LIMIT
+returns-2 c = let a = c.before.before.before.before.before.before.before.before.before.before.args in too_many (table a.cells.now a.bytes.now) c.before.before.before.gather-m.ensures c.if-m-gt-LIMIT.true
 
-returns-3 : tie.Need-returns-3
+returns-3 : tie.Need-returns
 returns-3 c =
     let a = c.before.before.before.before.before.before.before.before.before.before.before.before.before.args in
-    concluded (table a.cells.now a.bytes.now) c.judged.result c.before.before.before.before.before.before.gather.ensures (length-replicate {A = ℕ} 64 0) (length-replicate {A = ℕ} 64 0) c.judged.ensures
+    concluded (table a.cells.now a.bytes.now) c.judged.result c.before.before.before.before.before.before.gather-m.ensures (length-replicate {A = ℕ} 64 0) (length-replicate {A = ℕ} 64 0) c.judged.ensures
 
-pub check-spec : {M : Type 1} → statement M
-check-spec =
+pub check_spec : {M : Type 1} → statement M
+check_spec =
     tie.close
     (tie.spec
     returns

@@ -7,7 +7,7 @@ use Rattle.types.specs.JudgedLaws.{judged_with}
 use Rattle.types.proofs.judged.Statement.{statement}
 use Rattle.types.proofs.judged.Tie as tie
 
-slice-aggregate-misfits : tie.Need-slice-aggregate-misfits
+slice-aggregate-misfits : tie.Need-slice_bounds-misfits-end
 slice-aggregate-misfits c = simp length-take (omega arith)
 
 returns : tie.Need-returns
@@ -15,5 +15,5 @@ returns c =
     let a = c.before.before.before.before.before.before.before.args in
     judged_with a.rows.now a.n (table a.cells.now a.bytes.now) a.names.now a.types.now a.m c.misfits.result c.misfits.ensures
 
-pub judged-spec : {M : Type 1} → statement M
-judged-spec = tie.close (tie.spec slice-aggregate-misfits (λ c κs. search rules) returns)
+pub judged_spec : {M : Type 1} → statement M
+judged_spec = tie.close (tie.spec slice-aggregate-misfits (λ c κs. search rules) returns)

@@ -6,7 +6,7 @@ use borrow.Author.Rules.{rules}
 use Rattle.waits.proofs.mark.Statement.{statement}
 use Rattle.waits.proofs.mark.Tie as tie
 
-returns-2 : tie.Need-returns-2
+returns-2 : tie.Need-returns
 returns-2 c = sym (get_or-eq_default c.before.args.t1 false (omega arith))
 
 pub mark_spec : {M : Type 1} → statement M

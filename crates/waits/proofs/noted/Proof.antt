@@ -5,8 +5,8 @@ use Rattle.waits.proofs.noted.Tie as tie
 returns : tie.Need-returns
 returns c = record { any = cc; over = cc; completed = cc; discarded = cc }
 
-pub noted-spec : {M : Type 1} → statement M
-noted-spec =
+pub noted_spec : {M : Type 1} → statement M
+noted_spec =
     tie.close
     (tie.spec
     (λ c κs. search rules) (λ c κs. search rules) (λ c κs. search rules) (λ c κs. search rules) (λ c κs. search rules)

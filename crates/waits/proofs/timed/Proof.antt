@@ -5,5 +5,5 @@ use Rattle.waits.proofs.timed.Tie as tie
 returns : tie.Need-returns
 returns c = cc
 
-pub timed-spec : {M : Type 1} → statement M
-timed-spec = tie.close (tie.spec (λ c κs. search rules) returns)
+pub timed_spec : {M : Type 1} → statement M
+timed_spec = tie.close (tie.spec (λ c κs. search rules) returns)

@@ -4,11 +4,11 @@ use borrow.Author.Rules.{rules}
 use Rattle.advise.proofs.assigned.givers.Statement.{statement}
 use Rattle.advise.proofs.assigned.givers.Tie as tie
 
-abbrev invariant-loop : tie.invariant-loop
+abbrev invariant-loop : tie.invariant-loop-i
 invariant-loop rows texts plan out m d none last₀ i₀ last i = Unit {0}
 
-abbrev decreases-loop : tie.decreases-loop
+abbrev decreases-loop : tie.decreases-loop-i
 decreases-loop rows texts plan out m d none last₀ i₀ last i = m - i
 
-pub givers-spec : {M : Type 1} → statement M
-givers-spec = tie.close (tie.spec invariant-loop decreases-loop (λ c κs. search rules) (λ c. search rules) (λ c κs. search rules) (λ c κs. search rules) (λ c. search rules) (λ c. search rules) (λ c. search rules) (λ c. search rules))
+pub givers_spec : {M : Type 1} → statement M
+givers_spec = tie.close (tie.spec invariant-loop decreases-loop (λ c κs. search rules) (λ c. search rules) (λ c κs. search rules) (λ c κs. search rules) (λ c. search rules) (λ c. search rules) (λ c. search rules) (λ c. search rules))

@@ -6,14 +6,14 @@ use borrow.Author.Rules.{rules}
 use Rattle.advise.proofs.confirms.confirm.Statement.{statement}
 use Rattle.advise.proofs.confirms.confirm.Tie as tie
 
-returns : tie.Need-returns
-returns c = let e = c.before.before.count.ensures in let l = c.before.if1.true in record { task = c.before.before.before.find.result; named = c.before.before.before.find.ensures; none = λ q. refl; reply = λ q. absurd (omega arith); call = λ q. absurd (omega arith) }
+returns : tie.Need-returns-then-count-t
+returns c = let e = c.before.before.count.ensures in let l = c.before.if-count-t.true in record { task = c.before.before.before.find-t.result; named = c.before.before.before.find-t.ensures; none = λ q. refl; reply = λ q. absurd (omega arith); call = λ q. absurd (omega arith) }
 
-returns-2 : tie.Need-returns-2
-returns-2 c = let e = c.before.before.before.before.before.before.before.before.before.before.count.ensures in let l = c.before.before.before.before.before.before.before.before.before.if1.false in record { task = c.before.before.before.before.before.before.before.before.before.before.before.find.result; named = c.before.before.before.before.before.before.before.before.before.before.before.find.ensures; none = λ q. absurd (omega arith); reply = λ q. c.before.before.before.before.before.before.before.confirm.result; call = λ q. c.before.before.before.before.before.before.before.confirm.ensures }
+returns-2 : tie.Need-returns-in-Done
+returns-2 c = let e = c.before.before.before.before.before.before.before.before.before.before.count.ensures in let l = c.before.before.before.before.before.before.before.before.before.if-count-t.false in record { task = c.before.before.before.before.before.before.before.before.before.before.before.find-t.result; named = c.before.before.before.before.before.before.before.before.before.before.before.find-t.ensures; none = λ q. absurd (omega arith); reply = λ q. c.before.before.before.before.before.before.before.confirm.result; call = λ q. c.before.before.before.before.before.before.before.confirm.ensures }
 
-returns-3 : tie.Need-returns-3
-returns-3 c = let e = c.before.before.before.before.before.before.before.before.before.before.count.ensures in let l = c.before.before.before.before.before.before.before.before.before.if1.false in record { task = c.before.before.before.before.before.before.before.before.before.before.before.find.result; named = c.before.before.before.before.before.before.before.before.before.before.before.find.ensures; none = λ q. absurd (omega arith); reply = λ q. c.before.before.before.before.before.before.before.confirm.result; call = λ q. c.before.before.before.before.before.before.before.confirm.ensures }
+returns-3 : tie.Need-returns-in-Refused
+returns-3 c = let e = c.before.before.before.before.before.before.before.before.before.before.count.ensures in let l = c.before.before.before.before.before.before.before.before.before.if-count-t.false in record { task = c.before.before.before.before.before.before.before.before.before.before.before.find-t.result; named = c.before.before.before.before.before.before.before.before.before.before.before.find-t.ensures; none = λ q. absurd (omega arith); reply = λ q. c.before.before.before.before.before.before.before.confirm.result; call = λ q. c.before.before.before.before.before.before.before.confirm.ensures }
 
-pub confirm-spec : {M : Type 1} → statement M
-confirm-spec = tie.close (tie.spec (λ c κs. search rules) (λ c κs. search rules) (λ c κs. search rules) returns (λ c κs. search rules) (λ c. search rules) (λ c κs. search rules) (λ c. search rules) (λ c κs. search rules) (λ c. search rules) (λ c κs. search rules) (λ c κs. search rules) (λ c. search rules) returns-2 (λ c. search rules) returns-3)
+pub confirm_spec : {M : Type 1} → statement M
+confirm_spec = tie.close (tie.spec (λ c κs. search rules) (λ c κs. search rules) (λ c κs. search rules) returns (λ c κs. search rules) (λ c. search rules) (λ c κs. search rules) (λ c. search rules) (λ c κs. search rules) (λ c. search rules) (λ c κs. search rules) (λ c κs. search rules) (λ c. search rules) returns-2 (λ c. search rules) returns-3)

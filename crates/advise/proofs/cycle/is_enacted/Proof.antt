@@ -5,14 +5,14 @@ use borrow.Author.Rules.{rules}
 use Rattle.advise.proofs.cycle.is_enacted.Statement.{statement}
 use Rattle.advise.proofs.cycle.is_enacted.Tie as tie
 
-returns : tie.Need-returns
-returns c = ap enactedb (sym c.before.r.given.1)
+returns : tie.Need-returns-in-Quiet
+returns c = ap enactedb (sym c.before.r-1.given.1)
 
-returns-2 : tie.Need-returns-2
-returns-2 c = ap enactedb (sym c.before.r2.given.1)
+returns-2 : tie.Need-returns-in-Bounded
+returns-2 c = ap enactedb (sym c.before.r-in-Bounded-1.given.1)
 
-returns-3 : tie.Need-returns-3
-returns-3 c = ap enactedb (sym c.before.r3.given.1)
+returns-3 : tie.Need-returns-in-Exception
+returns-3 c = ap enactedb (sym c.before.r-in-Exception-1.given.1)
 
-pub is-enacted-spec : {M : Type 1} → statement M
-is-enacted-spec = tie.close (tie.spec (λ c. search rules) (λ c. search rules) (λ c. search rules) (λ c. search rules) returns returns-2 returns-3 (λ c. search rules))
+pub is_enacted_spec : {M : Type 1} → statement M
+is_enacted_spec = tie.close (tie.spec (λ c. search rules) (λ c. search rules) (λ c. search rules) (λ c. search rules) returns returns-2 returns-3 (λ c. search rules))

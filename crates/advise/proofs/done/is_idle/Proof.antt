@@ -5,11 +5,11 @@ use borrow.Author.Rules.{rules}
 use Rattle.advise.proofs.done.is_idle.Statement.{statement}
 use Rattle.advise.proofs.done.is_idle.Tie as tie
 
-returns : tie.Need-returns
-returns c = let a = c.before.before.before.before.args in idle_missed a.out.now a.i a.state.now c.before.is_row.ensures (not-true _ c.if1.true)
+returns : tie.Need-returns-then-not-is_row
+returns c = let a = c.before.before.before.before.args in idle_missed a.out.now a.i a.state.now c.before.is_row.ensures (not-true _ c.if-not-is_row.true-raw)
 
-returns-2 : tie.Need-returns-2
-returns-2 c = let a = c.before.before.before.before.before.before.args in idle_told a.out.now a.i a.state.now c.before.before.before.is_row.ensures (not-false _ c.before.before.if1.false) c.before.component.ensures c.row_is.ensures
+returns-2 : tie.Need-returns
+returns-2 c = let a = c.before.before.before.before.before.before.args in idle_told a.out.now a.i a.state.now c.before.before.before.is_row.ensures (not-false _ c.before.before.if-not-is_row.false-raw) c.before.component.ensures c.row_is.ensures
 
-pub is-idle-spec : {M : Type 1} → statement M
-is-idle-spec = tie.close (tie.spec (λ c κs. search rules) returns (λ c κs. search rules) (λ c κs. search rules) returns-2)
+pub is_idle_spec : {M : Type 1} → statement M
+is_idle_spec = tie.close (tie.spec (λ c κs. search rules) returns (λ c κs. search rules) (λ c κs. search rules) returns-2)

@@ -3,10 +3,10 @@ use borrow.Author.Rules.{rules}
 use Rattle.advise.proofs.giving.add.Statement.{statement}
 use Rattle.advise.proofs.giving.add.Tie as tie
 
-returns : tie.Need-returns
+returns : tie.Need-returns-in-Done
 returns c = (c.before.before.before.before.before.before.before.before.before.before.add.result, c.before.before.before.before.before.before.before.before.before.before.add.ensures)
 
-returns-2 : tie.Need-returns-2
+returns-2 : tie.Need-returns-in-Refused
 returns-2 c = (c.before.before.before.before.before.before.before.before.before.add.result, c.before.before.before.before.before.before.before.before.before.add.ensures)
 
 pub add_spec : {M : Type 1} → statement M

@@ -6,25 +6,25 @@ use borrow.Author.Rules.{rules}
 use Rattle.advise.proofs.giving.give.Statement.{statement}
 use Rattle.advise.proofs.giving.give.Tie as tie
 
-returns : tie.Need-returns
+returns : tie.Need-returns-then-count-d
 returns c =
     let e = c.before.before.before.count.ensures in
-    let l = c.before.before.if1.true in
-    record { item = c.before.before.before.before.find.result; named = c.before.before.before.before.find.ensures; none = λ q. (refl, refl); given = λ q. absurd (omega arith) }
+    let l = c.before.before.if-count-d.true in
+    record { item = c.before.before.before.before.find-d.result; named = c.before.before.before.before.find-d.ensures; none = λ q. (refl, refl); given = λ q. absurd (omega arith) }
 
-returns-2 : tie.Need-returns-2
+returns-2 : tie.Need-returns-in-Value
 returns-2 c =
     let a = c.before.before.before.before.before.before.before.before.before.before.before.before.before.before.before.before.before.before.before.before.before.before.before.before.before.before.before.before.before.args in
     let e = c.before.before.before.before.before.before.before.before.before.before.before.before.before.before.before.before.before.before.before.before.count.ensures in
-    let l = c.before.before.before.before.before.before.before.before.before.before.before.before.before.before.before.before.before.before.before.if1.false in
-    record { item = c.before.before.before.before.before.before.before.before.before.before.before.before.before.before.before.before.before.before.before.before.before.find.result; named = c.before.before.before.before.before.before.before.before.before.before.before.before.before.before.before.before.before.before.before.before.before.find.ensures; none = λ q. absurd (omega arith); given = λ q. given_as c.before.before.before.before.before.before.before.before.before.before.before.before.before.before.before.before.before.before.before.before.before.find.result a.texts.now a.plan.now a.state.now c.before.before.before.before.before.before.before.before.before.before.before.before.before.before.before.read.ensures.1 _ _ c.before.before.before.before.before.before.before.before.before.before.enum_told.given.1 c.before.before.before.before.add.ensures }
+    let l = c.before.before.before.before.before.before.before.before.before.before.before.before.before.before.before.before.before.before.before.if-count-d.false in
+    record { item = c.before.before.before.before.before.before.before.before.before.before.before.before.before.before.before.before.before.before.before.before.before.find-d.result; named = c.before.before.before.before.before.before.before.before.before.before.before.before.before.before.before.before.before.before.before.before.before.find-d.ensures; none = λ q. absurd (omega arith); given = λ q. given_as c.before.before.before.before.before.before.before.before.before.before.before.before.before.before.before.before.before.before.before.before.before.find-d.result a.texts-1.now a.plan.now a.state-1.now c.before.before.before.before.before.before.before.before.before.before.before.before.before.before.before.read.ensures.1 _ _ c.before.before.before.before.before.before.before.before.before.before.enum_told-1.given.1 c.before.before.before.before.add.ensures }
 
-returns-3 : tie.Need-returns-3
+returns-3 : tie.Need-returns-in-Wrong
 returns-3 c =
     let a = c.before.before.before.before.before.before.before.before.before.before.before.before.before.before.before.before.before.before.before.before.before.args in
     let e = c.before.before.before.before.before.before.before.before.before.before.before.before.count.ensures in
-    let l = c.before.before.before.before.before.before.before.before.before.before.before.if1.false in
-    record { item = c.before.before.before.before.before.before.before.before.before.before.before.before.before.find.result; named = c.before.before.before.before.before.before.before.before.before.before.before.before.before.find.ensures; none = λ q. absurd (omega arith); given = λ q. unread_as c.before.before.before.before.before.before.before.before.before.before.before.before.before.find.result a.texts.now a.plan.now a.state.now c.before.before.before.before.before.before.before.read.ensures.1 c.before.before.slip.given.1 }
+    let l = c.before.before.before.before.before.before.before.before.before.before.before.if-count-d.false in
+    record { item = c.before.before.before.before.before.before.before.before.before.before.before.before.before.find-d.result; named = c.before.before.before.before.before.before.before.before.before.before.before.before.before.find-d.ensures; none = λ q. absurd (omega arith); given = λ q. unread_as c.before.before.before.before.before.before.before.before.before.before.before.before.before.find-d.result a.texts-1.now a.plan.now a.state-1.now c.before.before.before.before.before.before.before.read.ensures.1 c.before.before.slip-1.given.1 }
 
 pub give_spec : {M : Type 1} → statement M
 give_spec = tie.close (tie.spec (λ c κs. search rules) (λ c κs. search rules) (λ c κs. search rules) (λ c. search rules) returns (λ c. search rules) (λ c. search rules) (λ c. search rules) (λ c κs. search rules) (λ c. search rules) (λ c. search rules) (λ c. search rules) (λ c. search rules) (λ c κs. search rules) (λ c. search rules) (λ c κs. search rules) (λ c. search rules) (λ c. search rules) returns-2 (λ c. search rules) returns-3)

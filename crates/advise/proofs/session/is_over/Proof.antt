@@ -4,8 +4,8 @@ use borrow.Author.Rules.{rules}
 use Rattle.advise.proofs.session.is_over.Statement.{statement}
 use Rattle.advise.proofs.session.is_over.Tie as tie
 
-returns-2 : tie.Need-returns-2
-returns-2 c = over_ended c.before.before.before.args.h c.before.before.if1.false c.before.if2.true
+returns-2 : tie.Need-returns-then-h-2
+returns-2 c = over_ended c.before.before.before.args.h c.before.before.if-h.false c.before.if-h-2.true
 
-pub is-over-spec : {M : Type 1} → statement M
-is-over-spec = tie.close (tie.spec (λ c. search rules) returns-2 (λ c. search rules))
+pub is_over_spec : {M : Type 1} → statement M
+is_over_spec = tie.close (tie.spec (λ c. search rules) returns-2 (λ c. search rules))

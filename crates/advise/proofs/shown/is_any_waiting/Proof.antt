@@ -4,11 +4,11 @@ use borrow.Author.Rules.{rules}
 use Rattle.advise.proofs.shown.is_any_waiting.Statement.{statement}
 use Rattle.advise.proofs.shown.is_any_waiting.Tie as tie
 
-abbrev invariant-loop : tie.invariant-loop
+abbrev invariant-loop : tie.invariant-loop-t
 invariant-loop plan state t₀ t = Unit {0}
 
-abbrev decreases-loop : tie.decreases-loop
+abbrev decreases-loop : tie.decreases-loop-t
 decreases-loop plan state t₀ t = 32 - t
 
-pub is-any-waiting-spec : {M : Type 1} → statement M
-is-any-waiting-spec = tie.close (tie.spec invariant-loop decreases-loop (λ c. search rules) (λ c κs. search rules) (λ c. search rules) (λ c. search rules) (λ c. search rules) (λ c. search rules) (λ c. search rules))
+pub is_any_waiting_spec : {M : Type 1} → statement M
+is_any_waiting_spec = tie.close (tie.spec invariant-loop decreases-loop (λ c. search rules) (λ c κs. search rules) (λ c. search rules) (λ c. search rules) (λ c. search rules) (λ c. search rules) (λ c. search rules))

@@ -4,11 +4,11 @@ use borrow.Author.Rules.{rules}
 use Rattle.advise.proofs.triggers.sent.Statement.{statement}
 use Rattle.advise.proofs.triggers.sent.Tie as tie
 
-abbrev invariant-loop : tie.invariant-loop
+abbrev invariant-loop : tie.invariant-loop-t
 invariant-loop rows texts plan state name n any₀ t₀ any t = Unit {0}
 
-abbrev decreases-loop : tie.decreases-loop
+abbrev decreases-loop : tie.decreases-loop-t
 decreases-loop rows texts plan state name n any₀ t₀ any t = n - t
 
-pub sent-spec : {M : Type 1} → statement M
-sent-spec = tie.close (tie.spec invariant-loop decreases-loop (λ c κs. search rules) (λ c. search rules) (λ c κs. search rules) (λ c. search rules) (λ c. search rules) (λ c. search rules) (λ c κs. search rules) (λ c. search rules) (λ c. search rules))
+pub sent_spec : {M : Type 1} → statement M
+sent_spec = tie.close (tie.spec invariant-loop decreases-loop (λ c κs. search rules) (λ c. search rules) (λ c κs. search rules) (λ c. search rules) (λ c. search rules) (λ c. search rules) (λ c κs. search rules) (λ c. search rules) (λ c. search rules))

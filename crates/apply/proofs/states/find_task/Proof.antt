@@ -12,34 +12,34 @@ use Rattle.apply.specs.TaskLaws.{asked_name, root_unnamed}
 use Rattle.apply.proofs.states.find_task.Statement.{statement}
 use Rattle.apply.proofs.states.find_task.Tie as tie
 
-abbrev invariant-loop : tie.invariant-loop
+abbrev invariant-loop : tie.invariant-loop-i
 invariant-loop bytes tasks h i₀ i = (0 < i) × ((k : ℕ) → k < i → namedb bytes tasks h k ≡ true → ⊥)
 
-abbrev decreases-loop : tie.decreases-loop
+abbrev decreases-loop : tie.decreases-loop-i
 decreases-loop bytes tasks h i₀ i = length tasks - i
 
-loop-holds : tie.Need-loop-init invariant-loop decreases-loop
+loop-holds : tie.Need-loop-i-init invariant-loop decreases-loop
 loop-holds c = let a = c.before.before.args in (omega arith, root_unnamed a.bytes.now a.tasks.now a.h)
 
-returns : tie.Need-returns invariant-loop decreases-loop
+returns : tie.Need-returns-then-named invariant-loop decreases-loop
 returns c =
     let a = c.before.before.before.before.before.before.before.args in
-    let l = c.before.before.before.before.loop in
+    let l = c.before.before.before.before.loop-i in
     let e = asked_name a.bytes.now a.tasks.now a.h l.i l.invariant.0 c.before.before.number.ensures c.before.named.ensures in
-    record { before = l.invariant.1; found = λ h. sym e ∙ c.if1.true }
+    record { before = l.invariant.1; found = λ h. sym e ∙ c.if-named.true }
 
-loop-again : tie.Need-loop-preserved invariant-loop decreases-loop
+loop-again : tie.Need-loop-i-preserved invariant-loop decreases-loop
 loop-again c =
     let a = c.before.before.before.before.before.before.before.args in
-    let l = c.before.before.before.before.loop in
+    let l = c.before.before.before.before.loop-i in
     let e = asked_name a.bytes.now a.tasks.now a.h l.i l.invariant.0 c.before.before.number.ensures c.before.named.ensures in
-    (omega arith, below_more _ _ l.invariant.1 (λ y. contra (sym c.if1.false ∙ e ∙ y)))
+    (omega arith, below_more _ _ l.invariant.1 (λ y. contra (sym c.if-named.false ∙ e ∙ y)))
 
-returns-2 : tie.Need-returns-2 invariant-loop decreases-loop
-returns-2 c = record { before = c.before.loop.invariant.1; found = λ l. absurd (omega arith) }
+returns-2 : tie.Need-returns invariant-loop decreases-loop
+returns-2 c = record { before = c.before.loop-i.invariant.1; found = λ l. absurd (omega arith) }
 
-pub find-task-spec : {M : Type 1} → statement M
-find-task-spec =
+pub find_task_spec : {M : Type 1} → statement M
+find_task_spec =
     tie.close
     (tie.spec
     invariant-loop

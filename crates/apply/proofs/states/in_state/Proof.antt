@@ -4,15 +4,15 @@ use Rattle.apply.specs.TaskLaws.{state_found, state_missing}
 use Rattle.apply.proofs.states.in_state.Statement.{statement}
 use Rattle.apply.proofs.states.in_state.Tie as tie
 
-returns : tie.Need-returns
+returns : tie.Need-returns-then-i-tasks
 returns c =
     let a = c.before.before.before.before.before.before.args in
-    state_found a.bytes.now a.tasks.now a.states.now a.state a.h c.before.before.find-task.result c.number.result c.before.before.find-task.ensures c.before.if1.true c.number.ensures
+    state_found a.bytes.now a.tasks.now a.states.now a.state a.h c.before.before.find_task-i.result c.number.result c.before.before.find_task-i.ensures c.before.if-i-tasks.true c.number.ensures
 
-returns-2 : tie.Need-returns-2
+returns-2 : tie.Need-returns
 returns-2 c =
     let a = c.before.before.before.before.before.args in
-    state_missing a.bytes.now a.tasks.now a.states.now a.state a.h c.before.find-task.result c.before.find-task.ensures c.if1.false
+    state_missing a.bytes.now a.tasks.now a.states.now a.state a.h c.before.find_task-i.result c.before.find_task-i.ensures c.if-i-tasks.false
 
-pub in-state-spec : {M : Type 1} → statement M
-in-state-spec = tie.close (tie.spec (λ c κs. search rules) (λ c κs. search rules) returns returns-2)
+pub in_state_spec : {M : Type 1} → statement M
+in_state_spec = tie.close (tie.spec (λ c κs. search rules) (λ c κs. search rules) returns returns-2)

@@ -14,10 +14,10 @@ returns : tie.Need-returns
 returns c = λ bs. let a = c.before.before.before.before.args in
     means bs (section-11.arithmetic (operation a.o)) (a.a ∷ a.b ∷ []) c.single.result tt
     (single_is bs c.single.result c.single.ensures
-    ∙ arithmetic_comes bs a.o a.a a.b (c.before.arithmetic-of.ensures ∙ ap₂ (arith_c a.o) c.before.before.before.scalar-of.ensures c.before.before.scalar-of2.ensures))
+    ∙ arithmetic_comes bs a.o a.a a.b (c.before.arithmetic_of.ensures ∙ ap₂ (arith_c a.o) c.before.before.before.scalar_of.ensures c.before.before.scalar_of-2.ensures))
 
-pub arithmetic-spec : {M : Type 1} → statement M
-arithmetic-spec =
+pub arithmetic_spec : {M : Type 1} → statement M
+arithmetic_spec =
     tie.close
     (tie.spec
     (λ c κs. search rules) (λ c κs. search rules) (λ c κs. search rules) (λ c κs. search rules)

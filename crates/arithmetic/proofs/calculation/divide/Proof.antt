@@ -13,9 +13,9 @@ returns : tie.Need-returns
 returns c = λ bs. let a = c.before.before.before.before.args in
     means bs section-11.divide (a.a ∷ a.b ∷ []) c.single.result tt
     (single_is bs c.single.result c.single.ensures
-    ∙ divide_comes bs a.a a.b (c.before.divide-of.ensures ∙ ap₂ divide_c c.before.before.before.scalar-of.ensures c.before.before.scalar-of2.ensures))
+    ∙ divide_comes bs a.a a.b (c.before.divide_of.ensures ∙ ap₂ divide_c c.before.before.before.scalar_of.ensures c.before.before.scalar_of-2.ensures))
 
-pub divide-spec : {M : Type 1} → statement M
-divide-spec =
+pub divide_spec : {M : Type 1} → statement M
+divide_spec =
     tie.close
     (tie.spec (λ c κs. search rules) (λ c κs. search rules) (λ c κs. search rules) (λ c κs. search rules) returns)

@@ -12,7 +12,7 @@ use Rattle.arithmetic.proofs.calculation.negate.Tie as tie
 returns : tie.Need-returns
 returns c = λ bs l. let a = c.before.before.before.args in
     means bs section-11.negate (a.a ∷ []) c.single.result tt
-    (single_is bs c.single.result c.single.ensures ∙ negate_comes bs a.a (c.before.negate-of.ensures ∙ ap negate_c c.before.before.scalar-of.ensures) l)
+    (single_is bs c.single.result c.single.ensures ∙ negate_comes bs a.a (c.before.negate_of.ensures ∙ ap negate_c c.before.before.scalar_of.ensures) l)
 
-pub negate-spec : {M : Type 1} → statement M
-negate-spec = tie.close (tie.spec (λ c κs. search rules) (λ c κs. search rules) (λ c κs. search rules) returns)
+pub negate_spec : {M : Type 1} → statement M
+negate_spec = tie.close (tie.spec (λ c κs. search rules) (λ c κs. search rules) (λ c κs. search rules) returns)

@@ -9,12 +9,12 @@ use borrow.Author.Rules.{rules}
 use Rattle.arithmetic.proofs.calculation.quotient.Statement.{statement}
 use Rattle.arithmetic.proofs.calculation.quotient.Tie as tie
 
-returns-2 : tie.Need-returns-2
+returns-2 : tie.Need-returns
 returns-2 c =
-    let e : zero_z c.before.before.before.before.before.args.y.z ≡ false = sym c.before.before.before.before.is_zero.ensures ∙ c.before.before.before.if1.false in
+    let e : zero_z c.before.before.before.before.before.args.y.z ≡ false = sym c.before.before.before.before.is_zero.ensures ∙ c.before.before.before.if-is_zero.false in
     rw e (c.real.ensures ∙ ap real_of_fn (c.before.cut.ensures ∙ ap (λ (z : ℤ). cut z c.before.before.before.before.before.args.y.z) c.before.before.scaled.ensures.0))
 
-pub quotient-spec : {M : Type 1} → statement M
-quotient-spec =
+pub quotient_spec : {M : Type 1} → statement M
+quotient_spec =
     tie.close
     (tie.spec (λ c κs. search rules) (λ c. search rules) (λ c κs. search rules) (λ c κs. search rules) (λ c κs. search rules) returns-2)

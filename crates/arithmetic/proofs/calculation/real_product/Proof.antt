@@ -8,7 +8,7 @@ use Rattle.arithmetic.proofs.calculation.real_product.Statement.{statement}
 use Rattle.arithmetic.proofs.calculation.real_product.Tie as tie
 
 returns : tie.Need-returns
-returns c = c.cut.ensures ∙ ap (λ (z : ℤ). cut z unit) c.before.product.ensures.0
+returns c = c.cut.ensures ∙ ap (λ (z : ℤ). cut z unit) c.before.product-p.ensures.0
 
-pub real-product-spec : {M : Type 1} → statement M
-real-product-spec = tie.close (tie.spec (λ c κs. search rules) (λ c κs. search rules) returns)
+pub real_product_spec : {M : Type 1} → statement M
+real_product_spec = tie.close (tie.spec (λ c κs. search rules) (λ c κs. search rules) returns)

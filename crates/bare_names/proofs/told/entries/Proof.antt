@@ -4,11 +4,11 @@ use borrow.Author.Rules.{rules}
 use Rattle.bare_names.proofs.told.entries.Statement.{statement}
 use Rattle.bare_names.proofs.told.entries.Tie as tie
 
-abbrev invariant-loop : tie.invariant-loop
+abbrev invariant-loop : tie.invariant-loop-k
 invariant-loop text places lengths items tasks names c told₀ k₀ told k = Unit {0}
 
-abbrev decreases-loop : tie.decreases-loop
+abbrev decreases-loop : tie.decreases-loop-k
 decreases-loop text places lengths items tasks names c told₀ k₀ told k = c.bare - k
 
-pub entries-spec : {M : Type 1} → statement M
-entries-spec = tie.close (tie.spec invariant-loop decreases-loop (λ c. search rules) (λ c κs. search rules) (λ c. search rules) (λ c. search rules) (λ c. search rules) (λ c. search rules))
+pub entries_spec : {M : Type 1} → statement M
+entries_spec = tie.close (tie.spec invariant-loop decreases-loop (λ c. search rules) (λ c κs. search rules) (λ c. search rules) (λ c. search rules) (λ c. search rules) (λ c. search rules))

@@ -6,5 +6,5 @@ use Rattle.bare_tokens.proofs.within.closed.Tie as tie
 returns : tie.Need-returns
 returns c = rw c.less.ensures
 
-pub closed-spec : {M : Type 1} → statement M
-closed-spec = tie.close (tie.spec (λ c κs. search rules) returns)
+pub closed_spec : {M : Type 1} → statement M
+closed_spec = tie.close (tie.spec (λ c κs. search rules) returns)

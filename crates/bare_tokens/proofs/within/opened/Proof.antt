@@ -5,14 +5,14 @@ use borrow.Author.Rules.{rules}
 use Rattle.bare_tokens.proofs.within.opened.Statement.{statement}
 use Rattle.bare_tokens.proofs.within.opened.Tie as tie
 
-returns : tie.Need-returns
-returns c = simp (lt-ltb 24 _ c.if1.true)
+returns : tie.Need-returns-then-w-gt-LIMIT
+returns c = simp (lt-ltb 24 _ c.if-w-gt-LIMIT.true)
 
-returns-2 : tie.Need-returns-2
-returns-2 c = simp (le-ltb 24 _ c.before.before.if1.false, sym c.before.is_around.ensures ∙ c.if2.true)
+returns-2 : tie.Need-returns-then-is_around
+returns-2 c = simp (le-ltb 24 _ c.before.before.if-w-gt-LIMIT.false, sym c.before.is_around.ensures ∙ c.if-is_around.true)
 
-returns-3 : tie.Need-returns-3
-returns-3 c = simp (le-ltb 24 _ c.before.before.before.if1.false, sym c.before.before.is_around.ensures ∙ c.before.if2.false)
+returns-3 : tie.Need-returns
+returns-3 c = simp (le-ltb 24 _ c.before.before.before.if-w-gt-LIMIT.false, sym c.before.before.is_around.ensures ∙ c.before.if-is_around.false)
 
-pub opened-spec : {M : Type 1} → statement M
-opened-spec = tie.close (tie.spec returns (λ c κs. search rules) returns-2 (λ c. search rules) returns-3)
+pub opened_spec : {M : Type 1} → statement M
+opened_spec = tie.close (tie.spec returns (λ c κs. search rules) returns-2 (λ c. search rules) returns-3)

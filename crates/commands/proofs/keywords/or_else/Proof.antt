@@ -4,11 +4,11 @@ use borrow.Author.Rules.{rules}
 use Rattle.commands.proofs.keywords.or_else.Statement.{statement}
 use Rattle.commands.proofs.keywords.or_else.Tie as tie
 
-returns : tie.Need-returns
-returns c = rw (sym c.before.is_word.ensures ∙ c.if1.true)
+returns : tie.Need-returns-then-is_word
+returns c = rw (sym c.before.is_word.ensures ∙ c.if-is_word.true)
 
-returns-2 : tie.Need-returns-2
-returns-2 c = rw (sym c.before.is_word.ensures ∙ c.if1.false)
+returns-2 : tie.Need-returns
+returns-2 c = rw (sym c.before.is_word.ensures ∙ c.if-is_word.false)
 
-pub or-else-spec : {M : Type 1} → statement M
-or-else-spec = tie.close (tie.spec (λ c κs. search rules) returns returns-2)
+pub or_else_spec : {M : Type 1} → statement M
+or_else_spec = tie.close (tie.spec (λ c κs. search rules) returns returns-2)

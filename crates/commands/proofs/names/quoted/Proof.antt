@@ -7,13 +7,13 @@ use borrow.Author.Rules.{rules}
 use Rattle.commands.proofs.names.quoted.Statement.{statement}
 use Rattle.commands.proofs.names.quoted.Tie as tie
 
-returns : tie.Need-returns
+returns : tie.Need-returns-then-s-to
 unfolding quoted_of
-returns c = rw (← c.before.before.close.ensures.1, le-leb (length c.before.before.before.before.args.s.now) c.before.before.close.result c.before.if1.true) c.none.ensures
+returns c = rw (← c.before.before.close-to.ensures.1, le-leb (length c.before.before.before.before.args.s.now) c.before.before.close-to.result c.before.if-s-to.true) c.none.ensures
 
-returns-2 : tie.Need-returns-2
+returns-2 : tie.Need-returns
 unfolding quoted_of
-returns-2 c = rw (← c.before.close.ensures.1, lt-leb (length c.before.before.before.args.s.now) c.before.close.result c.if1.false) refl
+returns-2 c = rw (← c.before.close-to.ensures.1, lt-leb (length c.before.before.before.args.s.now) c.before.close-to.result c.if-s-to.false) refl
 
-pub quoted-spec : {M : Type 1} → statement M
-quoted-spec = tie.close (tie.spec (λ c κs. search rules) (λ c κs. search rules) returns (λ c. search rules) returns-2)
+pub quoted_spec : {M : Type 1} → statement M
+quoted_spec = tie.close (tie.spec (λ c κs. search rules) (λ c κs. search rules) returns (λ c. search rules) returns-2)

@@ -7,21 +7,21 @@ use borrow.Author.Rules.{rules}
 use Rattle.commands.proofs.times.amount_at.Statement.{statement}
 use Rattle.commands.proofs.times.amount_at.Tie as tie
 
-returns : tie.Need-returns
+returns : tie.Need-returns-then-n-from
 unfolding amount_of
-returns c = rw (← c.before.before.before.before.skip.ensures.1, ← c.before.before.before.number.ensures.1, le-leb c.before.before.before.number.result.next c.before.before.before.before.skip.result c.before.if1.true) c.no-amount.ensures
+returns c = rw (← c.before.before.before.before.skip-from.ensures.1, ← c.before.before.before.number-n.ensures.1, le-leb c.before.before.before.number-n.result.next c.before.before.before.before.skip-from.result c.before.if-n-from.true) c.no_amount.ensures
 
-returns-2 : tie.Need-returns-2
+returns-2 : tie.Need-returns-then-is_none
 unfolding amount_of
-returns-2 c = rw (← c.before.before.before.before.before.before.before.before.before.skip.ensures.1, ← c.before.before.before.before.before.before.before.before.number.ensures.1, lt-leb c.before.before.before.before.before.before.before.before.number.result.next c.before.before.before.before.before.before.before.before.before.skip.result c.before.before.before.before.before.before.if1.false, ← c.before.before.before.before.before.skip2.ensures.1, ← c.before.before.before.before.word-end.ensures.1, ← c.before.before.before.unit.ensures, ← c.before.before.is_none.ensures, c.before.if2.true) c.no-amount2.ensures
+returns-2 c = rw (← c.before.before.before.before.before.before.before.before.before.skip-from.ensures.1, ← c.before.before.before.before.before.before.before.before.number-n.ensures.1, lt-leb c.before.before.before.before.before.before.before.before.number-n.result.next c.before.before.before.before.before.before.before.before.before.skip-from.result c.before.before.before.before.before.before.if-n-from.false, ← c.before.before.before.before.before.skip-p.ensures.1, ← c.before.before.before.before.word_end-q.ensures.1, ← c.before.before.before.unit-u.ensures, ← c.before.before.is_none.ensures, c.before.if-is_none.true) c.no_amount-then-is_none.ensures
 
-returns-3 : tie.Need-returns-3
+returns-3 : tie.Need-returns-then-end-s
 unfolding amount_of
-returns-3 c = rw (← c.before.before.before.before.before.before.before.before.before.before.before.skip.ensures.1, ← c.before.before.before.before.before.before.before.before.before.before.number.ensures.1, lt-leb c.before.before.before.before.before.before.before.before.before.before.number.result.next c.before.before.before.before.before.before.before.before.before.before.before.skip.result c.before.before.before.before.before.before.before.before.if1.false, ← c.before.before.before.before.before.before.before.skip2.ensures.1, ← c.before.before.before.before.before.before.word-end.ensures.1, ← c.before.before.before.before.before.unit.ensures, ← c.before.before.before.before.is_none.ensures, c.before.before.before.if2.false, ← c.before.before.skip3.ensures.1, lt-ltb c.before.before.skip3.result (length c.before.before.before.before.before.before.before.before.before.before.before.before.before.args.s.now) c.before.if3.true) c.no-amount3.ensures
+returns-3 c = rw (← c.before.before.before.before.before.before.before.before.before.before.before.skip-from.ensures.1, ← c.before.before.before.before.before.before.before.before.before.before.number-n.ensures.1, lt-leb c.before.before.before.before.before.before.before.before.before.before.number-n.result.next c.before.before.before.before.before.before.before.before.before.before.before.skip-from.result c.before.before.before.before.before.before.before.before.if-n-from.false, ← c.before.before.before.before.before.before.before.skip-p.ensures.1, ← c.before.before.before.before.before.before.word_end-q.ensures.1, ← c.before.before.before.before.before.unit-u.ensures, ← c.before.before.before.before.is_none.ensures, c.before.before.before.if-is_none.false, ← c.before.before.skip-end.ensures.1, lt-ltb c.before.before.skip-end.result (length c.before.before.before.before.before.before.before.before.before.before.before.before.before.args.s.now) c.before.if-end-s.true) c.no_amount-then-end-s.ensures
 
-returns-4 : tie.Need-returns-4
+returns-4 : tie.Need-returns
 unfolding amount_of
-returns-4 c = rw (← c.before.before.before.before.before.before.before.before.before.before.before.skip.ensures.1, ← c.before.before.before.before.before.before.before.before.before.before.number.ensures.1, lt-leb c.before.before.before.before.before.before.before.before.before.before.number.result.next c.before.before.before.before.before.before.before.before.before.before.before.skip.result c.before.before.before.before.before.before.before.before.if1.false, ← c.before.before.before.before.before.before.before.skip2.ensures.1, ← c.before.before.before.before.before.before.word-end.ensures.1, ← c.before.before.before.before.before.unit.ensures, ← c.before.before.before.before.is_none.ensures, c.before.before.before.if2.false, ← c.before.before.skip3.ensures.1, le-ltb c.before.before.skip3.result (length c.before.before.before.before.before.before.before.before.before.before.before.before.before.args.s.now) c.before.if3.false, ← c.seconds.ensures) refl
+returns-4 c = rw (← c.before.before.before.before.before.before.before.before.before.before.before.skip-from.ensures.1, ← c.before.before.before.before.before.before.before.before.before.before.number-n.ensures.1, lt-leb c.before.before.before.before.before.before.before.before.before.before.number-n.result.next c.before.before.before.before.before.before.before.before.before.before.before.skip-from.result c.before.before.before.before.before.before.before.before.if-n-from.false, ← c.before.before.before.before.before.before.before.skip-p.ensures.1, ← c.before.before.before.before.before.before.word_end-q.ensures.1, ← c.before.before.before.before.before.unit-u.ensures, ← c.before.before.before.before.is_none.ensures, c.before.before.before.if-is_none.false, ← c.before.before.skip-end.ensures.1, le-ltb c.before.before.skip-end.result (length c.before.before.before.before.before.before.before.before.before.before.before.before.before.args.s.now) c.before.if-end-s.false, ← c.seconds.ensures) refl
 
-pub amount-at-spec : {M : Type 1} → statement M
-amount-at-spec = tie.close (tie.spec (λ c κs. search rules) (λ c κs. search rules) (λ c κs. search rules) returns (λ c κs. search rules) (λ c κs. search rules) (λ c κs. search rules) (λ c κs. search rules) (λ c κs. search rules) returns-2 (λ c κs. search rules) (λ c κs. search rules) returns-3 (λ c κs. search rules) returns-4)
+pub amount_at_spec : {M : Type 1} → statement M
+amount_at_spec = tie.close (tie.spec (λ c κs. search rules) (λ c κs. search rules) (λ c κs. search rules) returns (λ c κs. search rules) (λ c κs. search rules) (λ c κs. search rules) (λ c κs. search rules) (λ c κs. search rules) returns-2 (λ c κs. search rules) (λ c κs. search rules) returns-3 (λ c κs. search rules) returns-4)

@@ -6,14 +6,14 @@ use borrow.Author.Rules.{rules}
 use Rattle.commands.proofs.times.or_else.Statement.{statement}
 use Rattle.commands.proofs.times.or_else.Tie as tie
 
-returns : tie.Need-returns
-returns c = rw (sym c.before.is_word.ensures ∙ c.if1.true)
+returns : tie.Need-returns-then-is_word
+returns c = rw (sym c.before.is_word.ensures ∙ c.if-is_word.true)
 
-returns-2 : tie.Need-returns-2
-returns-2 c = rw (sym c.before.before.before.is_word.ensures ∙ c.before.before.if1.false, sym c.before.is-word2.ensures ∙ c.if2.true)
+returns-2 : tie.Need-returns-then-is_word-2
+returns-2 c = rw (sym c.before.before.before.is_word.ensures ∙ c.before.before.if-is_word.false, sym c.before.is_word-2.ensures ∙ c.if-is_word-2.true)
 
-returns-3 : tie.Need-returns-3
-returns-3 c = rw (sym c.before.before.before.is_word.ensures ∙ c.before.before.if1.false, sym c.before.is-word2.ensures ∙ c.if2.false)
+returns-3 : tie.Need-returns
+returns-3 c = rw (sym c.before.before.before.is_word.ensures ∙ c.before.before.if-is_word.false, sym c.before.is_word-2.ensures ∙ c.if-is_word-2.false)
 
-pub or-else-spec : {M : Type 1} → statement M
-or-else-spec = tie.close (tie.spec (λ c κs. search rules) returns (λ c κs. search rules) returns-2 returns-3)
+pub or_else_spec : {M : Type 1} → statement M
+or_else_spec = tie.close (tie.spec (λ c κs. search rules) returns (λ c κs. search rules) returns-2 returns-3)

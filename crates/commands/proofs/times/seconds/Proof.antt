@@ -7,17 +7,17 @@ use borrow.Author.Rules.{rules}
 use Rattle.commands.proofs.times.seconds.Statement.{statement}
 use Rattle.commands.proofs.times.seconds.Tie as tie
 
-returns-2 : tie.Need-returns-2
-returns-2 c = ap (λ (m : Measure). seconds_of c.before.before.args.n m) (sym c.enum-told2.given.1)
+returns-2 : tie.Need-returns-in-Minutes
+returns-2 c = ap (λ (m : Measure). seconds_of c.before.before.args.n m) (sym c.enum_told-in-Minutes-1.given.1)
 
-returns-3 : tie.Need-returns-3
-returns-3 c = ap (λ (m : Measure). seconds_of c.before.before.args.n m) (sym c.enum-told3.given.1)
+returns-3 : tie.Need-returns-in-Hours
+returns-3 c = ap (λ (m : Measure). seconds_of c.before.before.args.n m) (sym c.enum_told-in-Hours-1.given.1)
 
-returns-4 : tie.Need-returns-4
-returns-4 c = ap (λ (m : Measure). seconds_of c.before.before.args.n m) (sym c.enum-told4.given.1)
+returns-4 : tie.Need-returns-in-Days
+returns-4 c = ap (λ (m : Measure). seconds_of c.before.before.args.n m) (sym c.enum_told-in-Days-1.given.1)
 
-returns-5 : tie.Need-returns-5
-returns-5 c = ap (λ (m : Measure). seconds_of c.before.before.args.n m) (sym c.enum-told5.given.1)
+returns-5 : tie.Need-returns-in-Weeks
+returns-5 c = ap (λ (m : Measure). seconds_of c.before.before.args.n m) (sym c.enum_told-in-Weeks-1.given.1)
 
-pub seconds-spec : {M : Type 1} → statement M
-seconds-spec = tie.close (tie.spec (λ c. search rules) (λ c. search rules) (λ c. search rules) (λ c. search rules) (λ c. search rules) (λ c. search rules) (λ c. search rules) (λ c. search rules) (λ c. search rules) (λ c. search rules) (λ c. search rules) returns-2 returns-3 returns-4 returns-5 (λ c. search rules))
+pub seconds_spec : {M : Type 1} → statement M
+seconds_spec = tie.close (tie.spec (λ c. search rules) (λ c. search rules) (λ c. search rules) (λ c. search rules) (λ c. search rules) (λ c. search rules) (λ c. search rules) (λ c. search rules) (λ c. search rules) (λ c. search rules) (λ c. search rules) returns-2 returns-3 returns-4 returns-5 (λ c. search rules))

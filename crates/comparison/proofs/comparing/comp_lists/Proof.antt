@@ -11,43 +11,43 @@ use borrow.Author.Rules.{rules}
 use Rattle.comparison.proofs.comparing.comp_lists.Statement.{statement}
 use Rattle.comparison.proofs.comparing.comp_lists.Tie as tie
 
-abbrev invariant-loop : tie.invariant-loop
+abbrev invariant-loop : tie.invariant-loop-i
 invariant-loop bytes l m n k i₀ i =
     (i ≤ n) × (n ≤ 16) × (k ≤ 16) × (n ≡ size_of l) × (k ≡ size_of m) × From (meaning_l bytes l) (meaning_l bytes m) i
 
-abbrev decreases-loop : tie.decreases-loop
+abbrev decreases-loop : tie.decreases-loop-i
 decreases-loop bytes l m n k i₀ i = n - i
 
-loop-holds : tie.Need-loop-init invariant-loop decreases-loop
-loop-holds c = (omega arith, c.before.size.ensures.1, c.size2.ensures.1, c.before.size.ensures.0, c.size2.ensures.0, refl)
+loop-holds : tie.Need-loop-i-init invariant-loop decreases-loop
+loop-holds c = (omega arith, c.before.size-n.ensures.1, c.size-k.ensures.1, c.before.size-n.ensures.0, c.size-k.ensures.0, refl)
 
-returns : tie.Need-returns invariant-loop decreases-loop
-returns c = longer (meaning_l c.before.before.before.before.before.before.args.bytes.now c.before.before.before.before.before.before.args.l) (meaning_l c.before.before.before.before.before.before.args.bytes.now c.before.before.before.before.before.before.args.m) c.before.before.loop.i c.before.before.loop.invariant.5 (omega (arith, size_is c.before.before.before.before.before.before.args.bytes.now c.before.before.before.before.before.before.args.l, c.before.before.loop.invariant.3)) (omega (arith, size_is c.before.before.before.before.before.before.args.bytes.now c.before.before.before.before.before.before.args.m, c.before.before.loop.invariant.4))
+returns : tie.Need-returns-then-k-i invariant-loop decreases-loop
+returns c = longer (meaning_l c.before.before.before.before.before.before.args.bytes.now c.before.before.before.before.before.before.args.l) (meaning_l c.before.before.before.before.before.before.args.bytes.now c.before.before.before.before.before.before.args.m) c.before.before.loop-i.i c.before.before.loop-i.invariant.5 (omega (arith, size_is c.before.before.before.before.before.before.args.bytes.now c.before.before.before.before.before.before.args.l, c.before.before.loop-i.invariant.3)) (omega (arith, size_is c.before.before.before.before.before.before.args.bytes.now c.before.before.before.before.before.before.args.m, c.before.before.loop-i.invariant.4))
 
-returns-2 : tie.Need-returns-2 invariant-loop decreases-loop
+returns-2 : tie.Need-returns-then-not-goes_on invariant-loop decreases-loop
 returns-2 c =
-    let h = heads_are c.before.before.before.before.before.before.before.before.before.before.before.args.bytes.now c.before.before.before.before.before.before.before.before.before.before.before.args.l c.before.before.before.before.before.before.before.before.before.before.before.args.m c.before.before.before.before.before.before.before.loop.i (omega (arith, c.before.before.before.before.before.before.before.loop.invariant.3)) (omega (arith, c.before.before.before.before.before.before.before.loop.invariant.4)) c.before.before.before.before.get.ensures c.before.before.before.get2.ensures c.before.before.comp-scalars.ensures in
-    h ∙ stop (meaning_l c.before.before.before.before.before.before.before.before.before.before.before.args.bytes.now c.before.before.before.before.before.before.before.before.before.before.before.args.l) (meaning_l c.before.before.before.before.before.before.before.before.before.before.before.args.bytes.now c.before.before.before.before.before.before.before.before.before.before.before.args.m) c.before.before.before.before.before.before.before.loop.i c.before.before.before.before.before.before.before.loop.invariant.5 (omega (arith, size_is c.before.before.before.before.before.before.before.before.before.before.before.args.bytes.now c.before.before.before.before.before.before.before.before.before.before.before.args.l, c.before.before.before.before.before.before.before.loop.invariant.3)) (omega (arith, size_is c.before.before.before.before.before.before.before.before.before.before.before.args.bytes.now c.before.before.before.before.before.before.before.before.before.before.before.args.m, c.before.before.before.before.before.before.before.loop.invariant.4)) (sym (ap goes_on_fn h) ∙ sym c.before.goes_on.ensures ∙ not-true _ c.if2.true)
+    let h = heads_are c.before.before.before.before.before.before.before.before.before.before.before.args.bytes.now c.before.before.before.before.before.before.before.before.before.before.before.args.l c.before.before.before.before.before.before.before.before.before.before.before.args.m c.before.before.before.before.before.before.before.loop-i.i (omega (arith, c.before.before.before.before.before.before.before.loop-i.invariant.3)) (omega (arith, c.before.before.before.before.before.before.before.loop-i.invariant.4)) c.before.before.before.before.get.ensures c.before.before.before.get-in-loop-i.ensures c.before.before.comp_scalars-s.ensures in
+    h ∙ stop (meaning_l c.before.before.before.before.before.before.before.before.before.before.before.args.bytes.now c.before.before.before.before.before.before.before.before.before.before.before.args.l) (meaning_l c.before.before.before.before.before.before.before.before.before.before.before.args.bytes.now c.before.before.before.before.before.before.before.before.before.before.before.args.m) c.before.before.before.before.before.before.before.loop-i.i c.before.before.before.before.before.before.before.loop-i.invariant.5 (omega (arith, size_is c.before.before.before.before.before.before.before.before.before.before.before.args.bytes.now c.before.before.before.before.before.before.before.before.before.before.before.args.l, c.before.before.before.before.before.before.before.loop-i.invariant.3)) (omega (arith, size_is c.before.before.before.before.before.before.before.before.before.before.before.args.bytes.now c.before.before.before.before.before.before.before.before.before.before.before.args.m, c.before.before.before.before.before.before.before.loop-i.invariant.4)) (sym (ap goes_on_fn h) ∙ sym c.before.goes_on.ensures ∙ not-true _ c.if-not-goes_on.true-raw)
 
-loop-again : tie.Need-loop-preserved invariant-loop decreases-loop
+loop-again : tie.Need-loop-i-preserved invariant-loop decreases-loop
 loop-again c =
-    let h = heads_are c.before.before.before.before.before.before.before.before.before.before.before.args.bytes.now c.before.before.before.before.before.before.before.before.before.before.before.args.l c.before.before.before.before.before.before.before.before.before.before.before.args.m c.before.before.before.before.before.before.before.loop.i (omega (arith, c.before.before.before.before.before.before.before.loop.invariant.3)) (omega (arith, c.before.before.before.before.before.before.before.loop.invariant.4)) c.before.before.before.before.get.ensures c.before.before.before.get2.ensures c.before.before.comp-scalars.ensures in (
+    let h = heads_are c.before.before.before.before.before.before.before.before.before.before.before.args.bytes.now c.before.before.before.before.before.before.before.before.before.before.before.args.l c.before.before.before.before.before.before.before.before.before.before.before.args.m c.before.before.before.before.before.before.before.loop-i.i (omega (arith, c.before.before.before.before.before.before.before.loop-i.invariant.3)) (omega (arith, c.before.before.before.before.before.before.before.loop-i.invariant.4)) c.before.before.before.before.get.ensures c.before.before.before.get-in-loop-i.ensures c.before.before.comp_scalars-s.ensures in (
       omega arith,
-      c.before.before.before.before.before.before.before.loop.invariant.1,
-      c.before.before.before.before.before.before.before.loop.invariant.2,
-      c.before.before.before.before.before.before.before.loop.invariant.3,
-      c.before.before.before.before.before.before.before.loop.invariant.4,
-      next (meaning_l c.before.before.before.before.before.before.before.before.before.before.before.args.bytes.now c.before.before.before.before.before.before.before.before.before.before.before.args.l) (meaning_l c.before.before.before.before.before.before.before.before.before.before.before.args.bytes.now c.before.before.before.before.before.before.before.before.before.before.before.args.m) c.before.before.before.before.before.before.before.loop.i c.before.before.before.before.before.before.before.loop.invariant.5 (omega (arith, size_is c.before.before.before.before.before.before.before.before.before.before.before.args.bytes.now c.before.before.before.before.before.before.before.before.before.before.before.args.l, c.before.before.before.before.before.before.before.loop.invariant.3)) (omega (arith, size_is c.before.before.before.before.before.before.before.before.before.before.before.args.bytes.now c.before.before.before.before.before.before.before.before.before.before.before.args.m, c.before.before.before.before.before.before.before.loop.invariant.4)) (sym (ap goes_on_fn h) ∙ sym c.before.goes_on.ensures ∙ not-false _ c.if2.false),
+      c.before.before.before.before.before.before.before.loop-i.invariant.1,
+      c.before.before.before.before.before.before.before.loop-i.invariant.2,
+      c.before.before.before.before.before.before.before.loop-i.invariant.3,
+      c.before.before.before.before.before.before.before.loop-i.invariant.4,
+      next (meaning_l c.before.before.before.before.before.before.before.before.before.before.before.args.bytes.now c.before.before.before.before.before.before.before.before.before.before.before.args.l) (meaning_l c.before.before.before.before.before.before.before.before.before.before.before.args.bytes.now c.before.before.before.before.before.before.before.before.before.before.before.args.m) c.before.before.before.before.before.before.before.loop-i.i c.before.before.before.before.before.before.before.loop-i.invariant.5 (omega (arith, size_is c.before.before.before.before.before.before.before.before.before.before.before.args.bytes.now c.before.before.before.before.before.before.before.before.before.before.before.args.l, c.before.before.before.before.before.before.before.loop-i.invariant.3)) (omega (arith, size_is c.before.before.before.before.before.before.before.before.before.before.before.args.bytes.now c.before.before.before.before.before.before.before.before.before.before.before.args.m, c.before.before.before.before.before.before.before.loop-i.invariant.4)) (sym (ap goes_on_fn h) ∙ sym c.before.goes_on.ensures ∙ not-false _ c.if-not-goes_on.false-raw),
     )
 
-returns-3 : tie.Need-returns-3 invariant-loop decreases-loop
-returns-3 c = shorter (meaning_l c.before.before.before.before.before.before.args.bytes.now c.before.before.before.before.before.before.args.l) (meaning_l c.before.before.before.before.before.before.args.bytes.now c.before.before.before.before.before.before.args.m) c.before.before.loop.i c.before.before.loop.invariant.5 (omega (arith, size_is c.before.before.before.before.before.before.args.bytes.now c.before.before.before.before.before.before.args.l, c.before.before.loop.invariant.3)) (omega (arith, size_is c.before.before.before.before.before.before.args.bytes.now c.before.before.before.before.before.before.args.m, c.before.before.loop.invariant.4))
+returns-3 : tie.Need-returns-then-i-k invariant-loop decreases-loop
+returns-3 c = shorter (meaning_l c.before.before.before.before.before.before.args.bytes.now c.before.before.before.before.before.before.args.l) (meaning_l c.before.before.before.before.before.before.args.bytes.now c.before.before.before.before.before.before.args.m) c.before.before.loop-i.i c.before.before.loop-i.invariant.5 (omega (arith, size_is c.before.before.before.before.before.before.args.bytes.now c.before.before.before.before.before.before.args.l, c.before.before.loop-i.invariant.3)) (omega (arith, size_is c.before.before.before.before.before.before.args.bytes.now c.before.before.before.before.before.before.args.m, c.before.before.loop-i.invariant.4))
 
-returns-4 : tie.Need-returns-4 invariant-loop decreases-loop
-returns-4 c = level (meaning_l c.before.before.before.before.before.before.args.bytes.now c.before.before.before.before.before.before.args.l) (meaning_l c.before.before.before.before.before.before.args.bytes.now c.before.before.before.before.before.before.args.m) c.before.before.loop.i c.before.before.loop.invariant.5 (omega (arith, size_is c.before.before.before.before.before.before.args.bytes.now c.before.before.before.before.before.before.args.l, c.before.before.loop.invariant.3)) (omega (arith, size_is c.before.before.before.before.before.before.args.bytes.now c.before.before.before.before.before.before.args.m, c.before.before.loop.invariant.4))
+returns-4 : tie.Need-returns invariant-loop decreases-loop
+returns-4 c = level (meaning_l c.before.before.before.before.before.before.args.bytes.now c.before.before.before.before.before.before.args.l) (meaning_l c.before.before.before.before.before.before.args.bytes.now c.before.before.before.before.before.before.args.m) c.before.before.loop-i.i c.before.before.loop-i.invariant.5 (omega (arith, size_is c.before.before.before.before.before.before.args.bytes.now c.before.before.before.before.before.before.args.l, c.before.before.loop-i.invariant.3)) (omega (arith, size_is c.before.before.before.before.before.before.args.bytes.now c.before.before.before.before.before.before.args.m, c.before.before.loop-i.invariant.4))
 
-pub comp-lists-spec : {M : Type 1} → statement M
-comp-lists-spec =
+pub comp_lists_spec : {M : Type 1} → statement M
+comp_lists_spec =
     tie.close
     (tie.spec
     invariant-loop

@@ -5,11 +5,11 @@ use borrow.Author.Rules.{rules}
 use Rattle.comparison.proofs.comparing.comp_text.Statement.{statement}
 use Rattle.comparison.proofs.comparing.comp_text.Tie as tie
 
-returns-5 : tie.Need-returns-5
-returns-5 c = let a = c.before.before.before.before.before.args in beside_text a.bytes.now (bytes_of a.bytes.now a.h) c.before.before.b.given.1 c.text-order.ensures
+returns-5 : tie.Need-returns-in-Text
+returns-5 c = let a = c.before.before.before.before.before.args in beside_text a.bytes.now (bytes_of a.bytes.now a.h) c.before.before.b-1.given.1 c.text_order.ensures
 
-pub comp-text-spec : {M : Type 1} → statement M
-comp-text-spec =
+pub comp_text_spec : {M : Type 1} → statement M
+comp_text_spec =
     tie.close
     (tie.spec
     (λ c. search rules) (λ c. search rules) (λ c. search rules) (λ c. search rules) (λ c. search rules) (λ c κs. search rules)

@@ -14,5 +14,5 @@ returns c = let a = c.before.before.before.before.args in let bs = a.bytes.now i
     means bs (section-11.compare (relation a.o)) (a.a ∷ a.b ∷ []) c.single.result tt
     (single_is bs c.single.result c.single.ensures ∙ compare_comes bs a.o a.a a.b c.before.row.ensures c.before.before.comp.ensures)
 
-pub compare-spec : {M : Type 1} → statement M
-compare-spec = tie.close (tie.spec (λ c κs. search rules) (λ c κs. search rules) (λ c κs. search rules) returns)
+pub compare_spec : {M : Type 1} → statement M
+compare_spec = tie.close (tie.spec (λ c κs. search rules) (λ c κs. search rules) (λ c κs. search rules) returns)

@@ -6,13 +6,13 @@ use Rattle.digits.proofs.decimal.thousandths.Tie as tie
 
 returns : tie.Need-returns
 returns c =
-    append_then c.before.before.before.before.before.before.before.before.before.before.before.before.before.before.before.before.before.before.number.ensures
-    (append_then c.before.before.before.before.before.before.before.before.before.before.before.before.before.before.byte.ensures
-    (append_then c.before.before.before.before.before.before.before.before.before.before.digit.ensures
-    (append_then c.before.before.before.before.before.before.digit2.ensures c.before.before.digit3.ensures)))
+    append_then c.before.before.before.before.before.before.before.before.before.before.before.before.before.before.before.before.before.before.number-whole.ensures
+    (append_then c.before.before.before.before.before.before.before.before.before.before.before.before.before.before.byte-point.ensures
+    (append_then c.before.before.before.before.before.before.before.before.before.before.digit-first.ensures
+    (append_then c.before.before.before.before.before.before.digit-second.ensures c.before.before.digit.ensures)))
 
-pub thousandths-spec : {M : Type 1} → statement M
-thousandths-spec =
+pub thousandths_spec : {M : Type 1} → statement M
+thousandths_spec =
     tie.close
     (tie.spec
     (λ c κs. search rules) (λ c κs. search rules) (λ c κs. search rules) (λ c κs. search rules) (λ c κs. search rules) (λ c. search rules)

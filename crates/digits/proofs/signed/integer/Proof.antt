@@ -9,8 +9,8 @@ use Rattle.digits.proofs.signed.integer.Tie as tie
 returns : tie.Need-returns
 returns c =
     let z = c.before.before.before.before.before.before.before.before.before.before.args.n.z in
-    appends_as (sign_first digits_of z) (append_then c.before.before.before.before.before.before.before.sign.ensures (rw c.before.before.before.before.magnitude.ensures at c.before.before.number.ensures))
+    appends_as (sign_first digits_of z) (append_then c.before.before.before.before.before.before.before.sign-p.ensures (rw c.before.before.before.before.magnitude.ensures at c.before.before.number.ensures))
 
-pub integer-spec : {M : Type 1} → statement M
-integer-spec =
+pub integer_spec : {M : Type 1} → statement M
+integer_spec =
     tie.close (tie.spec (λ c κs. search rules) (λ c κs. search rules) (λ c κs. search rules) (λ c. search rules) returns)

@@ -10,19 +10,19 @@ use borrow.Author.Rules.{rules}
 use Rattle.digits.proofs.signed.sign.Statement.{statement}
 use Rattle.digits.proofs.signed.sign.Tie as tie
 
-returns : tie.Need-returns
+returns : tie.Need-returns-then-z-lt0
 returns c =
-    let w = c.before.before.before.before.before.before.wide_of in
+    let w = c.before.before.before.before.before.before.wide_of-w in
     let f : SFits w64 w.result.z = fits w.result.z w.ensures.1 in
-    let e = minus w.result.z (simp (to_z-of_z f) at c.before.before.before.before.if1.true) in
+    let e = minus w.result.z (simp (to_z-of_z f) at c.before.before.before.before.if-z-lt0.true) in
     appends_as (ap sign_of (sym w.ensures.0) ∙ e) c.before.before.byte.ensures
 
-returns-2 : tie.Need-returns-2
+returns-2 : tie.Need-returns
 returns-2 c =
-    let w = c.before.before.wide_of in
+    let w = c.before.before.wide_of-w in
     let f : SFits w64 w.result.z = fits w.result.z w.ensures.1 in
-    let e = no_minus w.result.z (simp (to_z-of_z f) at c.if1.false) in
+    let e = no_minus w.result.z (simp (to_z-of_z f) at c.if-z-lt0.false) in
     appends_as (ap sign_of (sym w.ensures.0) ∙ e) (append_nothing _ _)
 
-pub sign-spec : {M : Type 1} → statement M
-sign-spec = tie.close (tie.spec (λ c κs. search rules) (λ c κs. search rules) (λ c. search rules) returns returns-2)
+pub sign_spec : {M : Type 1} → statement M
+sign_spec = tie.close (tie.spec (λ c κs. search rules) (λ c κs. search rules) (λ c. search rules) returns returns-2)

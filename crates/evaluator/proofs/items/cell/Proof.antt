@@ -8,5 +8,5 @@ use Rattle.evaluator.proofs.items.cell.Tie as tie
 returns : tie.Need-returns
 returns c = c.scalar.ensures ∙ ap₂ scalar_at c.before.before.number.ensures c.before.word.ensures
 
-pub cell-spec : {M : Type 1} → statement M
-cell-spec = tie.close (tie.spec (λ c κs. search rules) (λ c κs. search rules) (λ c κs. search rules) returns)
+pub cell_spec : {M : Type 1} → statement M
+cell_spec = tie.close (tie.spec (λ c κs. search rules) (λ c κs. search rules) (λ c κs. search rules) returns)

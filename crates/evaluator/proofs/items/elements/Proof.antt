@@ -6,26 +6,26 @@ use Rattle.evaluator.specs.Items.{Filled, filled_none, filled_more, filled_all}
 use Rattle.evaluator.proofs.items.elements.Statement.{statement}
 use Rattle.evaluator.proofs.items.elements.Tie as tie
 
-abbrev invariant-loop : tie.invariant-loop
+abbrev invariant-loop : tie.invariant-loop-k
 invariant-loop tags nums p n l₀ k₀ l k = (k ≤ n) × (n ≤ 16) × (p ≤ 2000000) × Filled tags nums p n k l
 
-abbrev decreases-loop : tie.decreases-loop
+abbrev decreases-loop : tie.decreases-loop-k
 decreases-loop tags nums p n l₀ k₀ l k = k
 
-loop-holds : tie.Need-loop-init invariant-loop decreases-loop
-loop-holds c = let a = c.before.before.before.args in (omega arith, omega arith, omega arith, filled_none a.tags.now a.nums.now a.p a.n c.blank.result c.blank.ensures)
+loop-holds : tie.Need-loop-k-init invariant-loop decreases-loop
+loop-holds c = let a = c.before.before.before.args in (omega arith, omega arith, omega arith, filled_none a.tags.now a.nums.now a.p a.n c.blank-l.result c.blank-l.ensures)
 
-loop-again : tie.Need-loop-preserved invariant-loop decreases-loop
+loop-again : tie.Need-loop-k-preserved invariant-loop decreases-loop
 loop-again c =
     let a = c.before.before.before.before.before.before.before.args in
-    let l = c.before.before.before.loop in
-    (omega arith, l.invariant.1, l.invariant.2, filled_more a.tags.now a.nums.now a.p a.n l.k c.before.cell.result l.l c.put_at.result l.invariant.1 c.before.before.loop-test.true l.invariant.0 c.before.cell.ensures c.put_at.ensures l.invariant.3)
+    let l = c.before.before.before.loop-k in
+    (omega arith, l.invariant.1, l.invariant.2, filled_more a.tags.now a.nums.now a.p a.n l.k c.before.cell.result l.l c.put_at-l.result l.invariant.1 c.before.before.loop-k-test.true l.invariant.0 c.before.cell.ensures c.put_at-l.ensures l.invariant.3)
 
 returns : tie.Need-returns invariant-loop decreases-loop
-returns c = let a = c.before.before.before.before.before.args in let l = c.before.loop in filled_all a.tags.now a.nums.now a.p a.n l.k l.l c.loop-test.false l.invariant.3
+returns c = let a = c.before.before.before.before.before.args in let l = c.before.loop-k in filled_all a.tags.now a.nums.now a.p a.n l.k l.l c.loop-k-test.false l.invariant.3
 
-pub elements-spec : {M : Type 1} → statement M
-elements-spec =
+pub elements_spec : {M : Type 1} → statement M
+elements_spec =
     tie.close
     (tie.spec
     invariant-loop

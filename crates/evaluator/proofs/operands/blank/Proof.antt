@@ -7,5 +7,5 @@ use Rattle.evaluator.proofs.operands.blank.Tie as tie
 returns : tie.Need-returns
 returns c = (search rules, search (rules, unmap))
 
-pub blank-spec : {M : Type 1} → statement M
-blank-spec = tie.close (tie.spec (λ c κs. search rules) returns)
+pub blank_spec : {M : Type 1} → statement M
+blank_spec = tie.close (tie.spec (λ c κs. search rules) returns)

@@ -13,7 +13,7 @@ returns c =
       first = search rules;
       second = search rules;
       third = search rules;
-      list = λ h. subst (λ (s : Scalar). Put a.k s a.o.list c.put_at.result) c.before.scalar-of.ensures (c.put_at.ensures h);
+      list = λ h. subst (λ (s : Scalar). Put a.k s a.o.list c.put_at-list.result) c.before.scalar_of.ensures (c.put_at-list.ensures h);
     }
 
 pub put_spec : {M : Type 1} → statement M

@@ -11,7 +11,7 @@ use borrow.Author.Rules.{rules}
 use Rattle.explain.proofs.offer.may_stand.Statement.{statement}
 use Rattle.explain.proofs.offer.may_stand.Tie as tie
 
-returns-3 : tie.Need-returns-3
+returns-3 : tie.Need-returns
 returns-3 c = λ h l.
     let s = c.before.before.before.before.before.before.before.before.args in
     let e = c.before.before.before.copy.ensures in
@@ -20,8 +20,8 @@ returns-3 c = λ h l.
     (put_last _ s.kinds.now s.i s.k (omega arith) (e.1 h (simp length-replicate (omega arith))))
     (c.begin.ensures (simp length-set (omega arith)) (omega arith))
 
-pub may-stand-spec : {M : Type 1} → statement M
-may-stand-spec =
+pub may_stand_spec : {M : Type 1} → statement M
+may_stand_spec =
     tie.close
     (tie.spec
     (λ c. search rules) (λ c. search rules) (λ c. search rules) (λ c κs. search rules) (λ c. search rules) (λ c. search rules)

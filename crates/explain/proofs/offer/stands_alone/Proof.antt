@@ -8,13 +8,13 @@ use borrow.Author.Rules.{rules}
 use Rattle.explain.proofs.offer.stands_alone.Statement.{statement}
 use Rattle.explain.proofs.offer.stands_alone.Tie as tie
 
-returns : tie.Need-returns
+returns : tie.Need-returns-then-may_stand
 returns c = λ h l. let s = c.before.before.before.args in
-    not_alone {w = take s.i s.kinds.now} {k = s.k} (subst (λ (b : Bool). Tells (Behind (take s.i s.kinds.now) ‘other-atom’) b) c.if1.true (c.before.may_stand.ensures h l))
+    not_alone {w = take s.i s.kinds.now} {k = s.k} (subst (λ (b : Bool). Tells (Behind (take s.i s.kinds.now) ‘other-atom’) b) c.if-may_stand.true (c.before.may_stand.ensures h l))
 
-returns-2 : tie.Need-returns-2
+returns-2 : tie.Need-returns
 returns-2 c = λ h l. let s = c.before.before.before.before.args in
-    alone (take s.i s.kinds.now) s.k c.before.before.may_stand.result c.may-stand2.result c.before.if1.false (c.before.before.may_stand.ensures h l) (c.may-stand2.ensures h l)
+    alone (take s.i s.kinds.now) s.k c.before.before.may_stand.result c.may_stand-2.result c.before.if-may_stand.false (c.before.before.may_stand.ensures h l) (c.may_stand-2.ensures h l)
 
-pub stands-alone-spec : {M : Type 1} → statement M
-stands-alone-spec = tie.close (tie.spec (λ c κs. search rules) returns (λ c κs. search rules) returns-2)
+pub stands_alone_spec : {M : Type 1} → statement M
+stands_alone_spec = tie.close (tie.spec (λ c κs. search rules) returns (λ c κs. search rules) returns-2)

@@ -7,29 +7,29 @@ use borrow.Author.Rules.{rules}
 use Rattle.explain.proofs.offer.token_at.Statement.{statement}
 use Rattle.explain.proofs.offer.token_at.Tie as tie
 
-abbrev invariant-loop : tie.invariant-loop
+abbrev invariant-loop : tie.invariant-loop-i
 invariant-loop places n place i₀ i = (i ≤ n) × ((k : ℕ) → k < i → get_or places k 0 < place)
 
-abbrev decreases-loop : tie.decreases-loop
+abbrev decreases-loop : tie.decreases-loop-i
 decreases-loop places n place i₀ i = n - i
 
-loop-holds : tie.Need-loop-init invariant-loop decreases-loop
+loop-holds : tie.Need-loop-i-init invariant-loop decreases-loop
 loop-holds c = (omega arith, below_none _)
 
-returns : tie.Need-returns invariant-loop decreases-loop
-returns c = record { few = omega arith; earlier = c.before.before.loop.invariant.1; not_later = λ h l. absurd (omega arith) }
+returns : tie.Need-returns-then-places-i invariant-loop decreases-loop
+returns c = record { few = omega arith; earlier = c.before.before.loop-i.invariant.1; not_later = λ h l. absurd (omega arith) }
 
-returns-2 : tie.Need-returns-2 invariant-loop decreases-loop
-returns-2 c = record { few = omega arith; earlier = c.before.before.before.before.loop.invariant.1; not_later = λ h l. c.if2.true }
+returns-2 : tie.Need-returns-then-place-places invariant-loop decreases-loop
+returns-2 c = record { few = omega arith; earlier = c.before.before.before.before.loop-i.invariant.1; not_later = λ h l. c.if-place-places.true }
 
-loop-again : tie.Need-loop-preserved invariant-loop decreases-loop
-loop-again c = (omega arith, below_more _ _ c.before.before.before.before.loop.invariant.1 c.if2.false)
+loop-again : tie.Need-loop-i-preserved invariant-loop decreases-loop
+loop-again c = (omega arith, below_more _ _ c.before.before.before.before.loop-i.invariant.1 c.if-place-places.false)
 
-returns-3 : tie.Need-returns-3 invariant-loop decreases-loop
-returns-3 c = record { few = omega arith; earlier = c.before.loop.invariant.1; not_later = λ h l. absurd (omega arith) }
+returns-3 : tie.Need-returns invariant-loop decreases-loop
+returns-3 c = record { few = omega arith; earlier = c.before.loop-i.invariant.1; not_later = λ h l. absurd (omega arith) }
 
-pub token-at-spec : {M : Type 1} → statement M
-token-at-spec =
+pub token_at_spec : {M : Type 1} → statement M
+token_at_spec =
     tie.close
     (tie.spec
     invariant-loop

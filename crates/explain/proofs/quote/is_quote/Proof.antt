@@ -3,11 +3,11 @@ use borrow.Author.Tests.{eq-eqb, ne_eqb}
 use Rattle.explain.proofs.quote.is_quote.Statement.{statement}
 use Rattle.explain.proofs.quote.is_quote.Tie as tie
 
-returns : tie.Need-returns
-returns c = simp (eq-eqb _ _ c.if1.true)
+returns : tie.Need-returns-then-b-eq39
+returns c = simp (eq-eqb _ _ c.if-b-eq39.true)
 
-returns-2 : tie.Need-returns-2
-returns-2 c = simp (ne_eqb _ _ c.if1.false)
+returns-2 : tie.Need-returns
+returns-2 c = simp (ne_eqb _ _ c.if-b-eq39.false)
 
-pub is-quote-spec : {M : Type 1} → statement M
-is-quote-spec = tie.close (tie.spec returns returns-2)
+pub is_quote_spec : {M : Type 1} → statement M
+is_quote_spec = tie.close (tie.spec returns returns-2)

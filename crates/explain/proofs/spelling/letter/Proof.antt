@@ -9,20 +9,20 @@ use borrow.Author.Rules.{rules}
 use Rattle.explain.proofs.spelling.letter.Statement.{statement}
 use Rattle.explain.proofs.spelling.letter.Tie as tie
 
-returns : tie.Need-returns
-returns c = letter_none c.before.before.args.k c.before.before.args.j c.before.size.result c.before.size.ensures c.if1.true
+returns : tie.Need-returns-then-size-j
+returns c = letter_none c.before.before.args.k c.before.before.args.j c.before.size.result-1 c.before.size.ensures c.if-size-j.true
 
-add-result-2 : tie.Need-overflow-add-result-2
-add-result-2 c = let z = index_fits c.before.before.before.args.k c.wide.result c.before.before.before.args.j c.before.before.size.result c.wide.ensures c.before.before.size.ensures c.before.if1.false in omega arith
+add-result-2 : tie.Need-overflow_add-result-2
+add-result-2 c = let z = index_fits c.before.before.before.args.k c.wide.result-1 c.before.before.before.args.j c.before.before.size.result-1 c.wide.ensures c.before.before.size.ensures c.before.if-size-j.false in omega arith
 
-element-copy-out-result : tie.Need-element-copy-out-result
-element-copy-out-result c = index_fits c.before.before.before.args.k c.wide.result c.before.before.before.args.j c.before.before.size.result c.wide.ensures c.before.before.size.ensures c.before.if1.false
+element-copy-out-result : tie.Need-bounds-t-wide
+element-copy-out-result c = index_fits c.before.before.before.args.k c.wide.result-1 c.before.before.before.args.j c.before.before.size.result-1 c.wide.ensures c.before.before.size.ensures c.before.if-size-j.false
 
-returns-2 : tie.Need-returns-2
-returns-2 c = ap (λ (l : List ℕ). get_or l (c.before.wide.result * 24 + 1 + c.before.before.before.before.args.j) 0) c.before.before.before.before.requires ∙ letter_is c.before.before.before.before.args.k c.before.wide.result c.before.before.before.before.args.j c.before.before.before.size.result c.before.wide.ensures c.before.before.before.size.ensures c.before.before.if1.false
+returns-2 : tie.Need-returns
+returns-2 c = ap (λ (l : List ℕ). get_or l (c.before.wide.result-1 * 24 + 1 + c.before.before.before.before.args.j) 0) c.before.before.before.before.requires ∙ letter_is c.before.before.before.before.args.k c.before.wide.result-1 c.before.before.before.before.args.j c.before.before.before.size.result-1 c.before.wide.ensures c.before.before.before.size.ensures c.before.before.if-size-j.false
 
-pub letter-spec : {M : Type 1} → statement M
-letter-spec =
+pub letter_spec : {M : Type 1} → statement M
+letter_spec =
     tie.close
     (tie.spec
     (λ c κs. search rules)

@@ -9,5 +9,5 @@ returns : tie.Need-returns
 unfolding reserved others spellings spellings_table
 returns c = refl
 
-pub spellings-spec : {M : Type 1} → statement M
-spellings-spec = tie.close (tie.spec returns)
+pub spellings_spec : {M : Type 1} → statement M
+spellings_spec = tie.close (tie.spec returns)

@@ -10,41 +10,41 @@ use borrow.Author.Rules.{rules}
 use Rattle.explain_rows.proofs.firsts.before.Statement.{statement}
 use Rattle.explain_rows.proofs.firsts.before.Tie as tie
 
-abbrev invariant-loop : tie.invariant-loop
+abbrev invariant-loop : tie.invariant-loop-i
 invariant-loop rows j k i₀ i = (i ≤ j) × (k ≡ kind_of rows j) × Passed rows i j
 
-abbrev decreases-loop : tie.decreases-loop
+abbrev decreases-loop : tie.decreases-loop-i
 decreases-loop rows j k i₀ i = i
 
-loop-holds : tie.Need-loop-init invariant-loop decreases-loop
-loop-holds c = (omega arith, c.kind.ensures, λ m a b. absurd (omega arith))
+loop-holds : tie.Need-loop-i-init invariant-loop decreases-loop
+loop-holds c = (omega arith, c.kind-k.ensures, λ m a b. absurd (omega arith))
 
-returns : tie.Need-returns invariant-loop decreases-loop
+returns : tie.Need-returns-then-m-k invariant-loop decreases-loop
 returns c =
-    let v = c.before.before.before.loop.invariant in
-    before_here c.before.before.before.before.before.before.args.rows.now c.before.before.loop-test.true v.0 v.2 (sym c.before.kind2.ensures ∙ c.if1.true ∙ v.1)
+    let v = c.before.before.before.loop-i.invariant in
+    before_here c.before.before.before.before.before.before.args.rows.now c.before.before.loop-i-test.true v.0 v.2 (sym c.before.kind-m.ensures ∙ c.if-m-k.true ∙ v.1)
 
 -- the test of the kinds, at the row before
-parted : (c : tie.After-parts invariant-loop decreases-loop) → c.parts.result ≡ parts_from (kind_of c.before.before.before.before.before.before.before.args.rows.now c.before.before.before.before.before.before.before.args.j) (kind_of c.before.before.before.before.before.before.before.args.rows.now (c.before.before.before.before.loop.i - 1))
-parted c = parts_as c.parts.ensures c.before.before.before.before.loop.invariant.1 c.before.before.kind2.ensures
+parted : (c : tie.After-parts invariant-loop decreases-loop) → c.parts.result ≡ parts_from (kind_of c.before.before.before.before.before.before.before.args.rows.now c.before.before.before.before.before.before.before.args.j) (kind_of c.before.before.before.before.before.before.before.args.rows.now (c.before.before.before.before.loop-i.i - 1))
+parted c = parts_as c.parts.ensures c.before.before.before.before.loop-i.invariant.1 c.before.before.kind-m.ensures
 
-returns-2 : tie.Need-returns-2 invariant-loop decreases-loop
+returns-2 : tie.Need-returns-then-parts invariant-loop decreases-loop
 returns-2 c =
-    let v = c.before.before.before.before.before.loop.invariant in
+    let v = c.before.before.before.before.before.loop-i.invariant in
     let a = c.before.before.before.before.before.before.before.before.args in
-    before_none a.rows.now a.j (again_stop a.rows.now c.before.before.before.before.loop-test.true v.0 v.2 (λ e. c.before.before.if1.false (c.before.before.before.kind2.ensures ∙ e ∙ sym v.1)) (sym (parted c.before) ∙ c.if2.true))
+    before_none a.rows.now a.j (again_stop a.rows.now c.before.before.before.before.loop-i-test.true v.0 v.2 (λ e. c.before.before.if-m-k.false (c.before.before.before.kind-m.ensures ∙ e ∙ sym v.1)) (sym (parted c.before) ∙ c.if-parts.true))
 
-loop-again : tie.Need-loop-preserved invariant-loop decreases-loop
+loop-again : tie.Need-loop-i-preserved invariant-loop decreases-loop
 loop-again c =
-    let v = c.before.before.before.before.before.loop.invariant in
-    (omega arith, v.1, passed_more c.before.before.before.before.before.before.before.before.args.rows.now c.before.before.before.before.loop-test.true v.0 v.2 (λ e. c.before.before.if1.false (c.before.before.before.kind2.ensures ∙ e ∙ sym v.1)) (sym (parted c.before) ∙ c.if2.false))
+    let v = c.before.before.before.before.before.loop-i.invariant in
+    (omega arith, v.1, passed_more c.before.before.before.before.before.before.before.before.args.rows.now c.before.before.before.before.loop-i-test.true v.0 v.2 (λ e. c.before.before.if-m-k.false (c.before.before.before.kind-m.ensures ∙ e ∙ sym v.1)) (sym (parted c.before) ∙ c.if-parts.false))
 
-returns-3 : tie.Need-returns-3 invariant-loop decreases-loop
+returns-3 : tie.Need-returns invariant-loop decreases-loop
 returns-3 c =
-    let v = c.before.loop.invariant in
+    let v = c.before.loop-i.invariant in
     let a = c.before.before.before.before.args in
-    let z = c.loop-test.false in
+    let z = c.loop-i-test.false in
     before_none a.rows.now a.j (again_none a.rows.now (λ m l u. v.2 m (omega arith) u))
 
-pub before-spec : {M : Type 1} → statement M
-before-spec = tie.close (tie.spec invariant-loop decreases-loop (λ c κs. search rules) loop-holds (λ c. search rules) (λ c κs. search rules) returns (λ c κs. search rules) returns-2 (λ c. search rules) loop-again returns-3)
+pub before_spec : {M : Type 1} → statement M
+before_spec = tie.close (tie.spec invariant-loop decreases-loop (λ c κs. search rules) loop-holds (λ c. search rules) (λ c κs. search rules) returns (λ c κs. search rules) returns-2 (λ c. search rules) loop-again returns-3)

@@ -9,23 +9,23 @@ use borrow.Author.Rules.{rules}
 use Rattle.explain_rows.proofs.firsts.begun_at.Statement.{statement}
 use Rattle.explain_rows.proofs.firsts.begun_at.Tie as tie
 
-abbrev invariant-loop : tie.invariant-loop
+abbrev invariant-loop : tie.invariant-loop-i
 invariant-loop rows n place i₀ i = (m : ℕ) → m < i → begins_at rows place m ≡ false
 
-abbrev decreases-loop : tie.decreases-loop
+abbrev decreases-loop : tie.decreases-loop-i
 decreases-loop rows n place i₀ i = n - i
 
-loop-holds : tie.Need-loop-init invariant-loop decreases-loop
+loop-holds : tie.Need-loop-i-init invariant-loop decreases-loop
 loop-holds c = below_none _
 
-returns : tie.Need-returns invariant-loop decreases-loop
-returns c = let l = c.before.before.loop-test.true in record { within = omega arith; passes = λ k. (sym c.before.begins.ensures ∙ c.if1.true); earlier = c.before.before.before.loop.invariant }
+returns : tie.Need-returns-then-begins invariant-loop decreases-loop
+returns c = let l = c.before.before.loop-i-test.true in record { within = omega arith; passes = λ k. (sym c.before.begins.ensures ∙ c.if-begins.true); earlier = c.before.before.before.loop-i.invariant }
 
-loop-again : tie.Need-loop-preserved invariant-loop decreases-loop
-loop-again c = below_more _ _ c.before.before.before.loop.invariant (sym c.before.begins.ensures ∙ c.if1.false)
+loop-again : tie.Need-loop-i-preserved invariant-loop decreases-loop
+loop-again c = below_more _ _ c.before.before.before.loop-i.invariant (sym c.before.begins.ensures ∙ c.if-begins.false)
 
-returns-2 : tie.Need-returns-2 invariant-loop decreases-loop
-returns-2 c = first_none c.loop-test.false c.before.loop.invariant
+returns-2 : tie.Need-returns invariant-loop decreases-loop
+returns-2 c = first_none c.loop-i-test.false c.before.loop-i.invariant
 
-pub begun-at-spec : {M : Type 1} → statement M
-begun-at-spec = tie.close (tie.spec invariant-loop decreases-loop loop-holds (λ c κs. search rules) returns (λ c. search rules) (λ c. search rules) loop-again returns-2)
+pub begun_at_spec : {M : Type 1} → statement M
+begun_at_spec = tie.close (tie.spec invariant-loop decreases-loop loop-holds (λ c κs. search rules) returns (λ c. search rules) (λ c. search rules) loop-again returns-2)

@@ -5,11 +5,11 @@ use borrow.Author.Rules.{rules}
 use Rattle.explain_rows.proofs.firsts.is_named.Statement.{statement}
 use Rattle.explain_rows.proofs.firsts.is_named.Tie as tie
 
-returns : tie.Need-returns
-returns c = let a = c.before.before.before.before.before.args in named_not a.rows.now a.bytes.now a.sort a.folded a.h a.i c.before.before.kind.ensures c.before.is-sort.ensures (not-true _ c.if1.true)
+returns : tie.Need-returns-then-not-is_sort
+returns c = let a = c.before.before.before.before.before.args in named_not a.rows.now a.bytes.now a.sort a.folded a.h a.i c.before.before.kind.ensures c.before.is_sort.ensures (not-true _ c.if-not-is_sort.true-raw)
 
-returns-2 : tie.Need-returns-2
-returns-2 c = let a = c.before.before.before.before.before.before.before.args in named_so a.rows.now a.bytes.now a.sort a.folded a.h a.i c.before.before.before.before.kind.ensures c.before.before.before.is-sort.ensures (not-false _ c.before.before.if1.false) c.before.handle.ensures c.matches.ensures
+returns-2 : tie.Need-returns
+returns-2 c = let a = c.before.before.before.before.before.before.before.args in named_so a.rows.now a.bytes.now a.sort a.folded a.h a.i c.before.before.before.before.kind.ensures c.before.before.before.is_sort.ensures (not-false _ c.before.before.if-not-is_sort.false-raw) c.before.handle.ensures c.matches.ensures
 
-pub is-named-spec : {M : Type 1} → statement M
-is-named-spec = tie.close (tie.spec (λ c κs. search rules) (λ c κs. search rules) returns (λ c κs. search rules) (λ c κs. search rules) returns-2)
+pub is_named_spec : {M : Type 1} → statement M
+is_named_spec = tie.close (tie.spec (λ c κs. search rules) (λ c κs. search rules) returns (λ c κs. search rules) (λ c κs. search rules) returns-2)

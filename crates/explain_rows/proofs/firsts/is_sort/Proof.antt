@@ -6,14 +6,14 @@ use borrow.Author.Rules.{rules}
 use Rattle.explain_rows.proofs.firsts.is_sort.Statement.{statement}
 use Rattle.explain_rows.proofs.firsts.is_sort.Tie as tie
 
-returns : tie.Need-returns
-returns c = c.is_task.ensures ∙ ap (λ (s : Sort). sort_kind s c.before.before.before.args.k) (sym c.before.enum_told.given.1)
+returns : tie.Need-returns-in-Task
+returns c = c.is_task.ensures ∙ ap (λ (s : Sort). sort_kind s c.before.before.before.args.k) (sym c.before.enum_told-1.given.1)
 
-returns-2 : tie.Need-returns-2
-returns-2 c = ap (λ (s : Sort). sort_kind s c.before.before.args.k) (sym c.enum-told2.given.1)
+returns-2 : tie.Need-returns-in-Item
+returns-2 c = ap (λ (s : Sort). sort_kind s c.before.before.args.k) (sym c.enum_told-in-Item-1.given.1)
 
-returns-3 : tie.Need-returns-3
-returns-3 c = ap (λ (s : Sort). sort_kind s c.before.before.args.k) (sym c.enum-told3.given.1)
+returns-3 : tie.Need-returns-in-Component
+returns-3 c = ap (λ (s : Sort). sort_kind s c.before.before.args.k) (sym c.enum_told-in-Component-1.given.1)
 
-pub is-sort-spec : {M : Type 1} → statement M
-is-sort-spec = tie.close (tie.spec (λ c. search rules) (λ c κs. search rules) (λ c. search rules) (λ c. search rules) returns returns-2 returns-3)
+pub is_sort_spec : {M : Type 1} → statement M
+is_sort_spec = tie.close (tie.spec (λ c. search rules) (λ c κs. search rules) (λ c. search rules) (λ c. search rules) returns returns-2 returns-3)

@@ -4,11 +4,11 @@ use borrow.Author.Rules.{rules}
 use Rattle.explain_rows.proofs.rules.is_own.Statement.{statement}
 use Rattle.explain_rows.proofs.rules.is_own.Tie as tie
 
-returns : tie.Need-returns
-returns c = let a = c.before.before.before.args in own_not a.rows.now a.bytes.now a.j a.c c.if1.true
+returns : tie.Need-returns-then-j-c
+returns c = let a = c.before.before.before.args in own_not a.rows.now a.bytes.now a.j a.c c.if-j-c.true
 
-returns-2 : tie.Need-returns-2
-returns-2 c = let a = c.before.before.before.before.before.before.args in own_so a.rows.now a.bytes.now a.j a.c c.before.before.before.if1.false c.before.before.handle.ensures c.before.handle2.ensures c.same.ensures
+returns-2 : tie.Need-returns
+returns-2 c = let a = c.before.before.before.before.before.before.args in own_so a.rows.now a.bytes.now a.j a.c c.before.before.before.if-j-c.false c.before.before.handle.ensures c.before.handle-2.ensures c.same.ensures
 
-pub is-own-spec : {M : Type 1} → statement M
-is-own-spec = tie.close (tie.spec returns (λ c κs. search rules) (λ c κs. search rules) (λ c κs. search rules) returns-2)
+pub is_own_spec : {M : Type 1} → statement M
+is_own_spec = tie.close (tie.spec returns (λ c κs. search rules) (λ c κs. search rules) (λ c κs. search rules) returns-2)

@@ -7,11 +7,11 @@ use borrow.Author.Rules.{rules}
 use Rattle.explain_rows.proofs.rules.of_item.Statement.{statement}
 use Rattle.explain_rows.proofs.rules.of_item.Tie as tie
 
-returns : tie.Need-returns
-returns c = λ n e. let a = c.before.before.before.before.before.args in (e, (c.if1.true, first_as a.rows.now a.bytes.now Item true c.before.before.handle.ensures c.before.named.ensures))
+returns : tie.Need-returns-then-i-j
+returns c = λ n e. let a = c.before.before.before.before.before.args in (e, (c.if-i-j.true, first_as a.rows.now a.bytes.now Item true c.before.before.handle.ensures c.before.named-i.ensures))
 
-returns-2 : tie.Need-returns-2
-returns-2 c = λ n e. let a = c.before.before.before.before.before.args in item_kept e (first_end a.rows.now a.bytes.now Item true c.before.before.handle.ensures c.if1.false c.before.named.ensures)
+returns-2 : tie.Need-returns
+returns-2 c = λ n e. let a = c.before.before.before.before.before.args in item_kept e (first_end a.rows.now a.bytes.now Item true c.before.before.handle.ensures c.if-i-j.false c.before.named-i.ensures)
 
-pub of-item-spec : {M : Type 1} → statement M
-of-item-spec = tie.close (tie.spec (λ c κs. search rules) (λ c κs. search rules) returns returns-2)
+pub of_item_spec : {M : Type 1} → statement M
+of_item_spec = tie.close (tie.spec (λ c κs. search rules) (λ c κs. search rules) returns returns-2)

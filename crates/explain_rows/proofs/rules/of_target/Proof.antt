@@ -7,11 +7,11 @@ use borrow.Author.Rules.{rules}
 use Rattle.explain_rows.proofs.rules.of_target.Statement.{statement}
 use Rattle.explain_rows.proofs.rules.of_target.Tie as tie
 
-returns : tie.Need-returns
-returns c = λ e. let a = c.before.before.before.before.before.args in target_kept e (c.before.named.result, (c.if1.true, first_as a.rows.now a.bytes.now Item true c.before.before.handle.ensures c.before.named.ensures))
+returns : tie.Need-returns-then-d-n
+returns c = λ e. let a = c.before.before.before.before.before.args in target_kept e (c.before.named-d.result, (c.if-d-n.true, first_as a.rows.now a.bytes.now Item true c.before.before.handle.ensures c.before.named-d.ensures))
 
-returns-2 : tie.Need-returns-2
-returns-2 c = λ e. let a = c.before.before.before.before.before.args in (e, first_end a.rows.now a.bytes.now Item true c.before.before.handle.ensures c.if1.false c.before.named.ensures)
+returns-2 : tie.Need-returns
+returns-2 c = λ e. let a = c.before.before.before.before.before.args in (e, first_end a.rows.now a.bytes.now Item true c.before.before.handle.ensures c.if-d-n.false c.before.named-d.ensures)
 
-pub of-target-spec : {M : Type 1} → statement M
-of-target-spec = tie.close (tie.spec (λ c κs. search rules) (λ c κs. search rules) returns returns-2)
+pub of_target_spec : {M : Type 1} → statement M
+of_target_spec = tie.close (tie.spec (λ c κs. search rules) (λ c κs. search rules) returns returns-2)

@@ -7,29 +7,29 @@ use borrow.Author.Rules.{rules}
 use Rattle.expression_reader.proofs.single.calls.Statement.{statement}
 use Rattle.expression_reader.proofs.single.calls.Tie as tie
 
-returns : tie.Need-returns
-returns c = let k = c.before.kind_at.ensures in let z = c.if1.true in record { room = λ e. contra e; yes = λ e. contra e; no = λ e a b. absurd (omega arith) }
+returns : tie.Need-returns-then-k-lt-OTHER_ATOM
+returns c = let k = c.before.kind_at-k.ensures in let z = c.if-k-lt-OTHER_ATOM.true in record { room = λ e. contra e; yes = λ e. contra e; no = λ e a b. absurd (omega arith) }
 
-returns-2 : tie.Need-returns-2
-returns-2 c = let k = c.before.before.kind_at.ensures in let z = c.if2.true in record { room = λ e. contra e; yes = λ e. contra e; no = λ e a b. absurd (omega arith) }
+returns-2 : tie.Need-returns-then-k-gt-DATA_TYPE
+returns-2 c = let k = c.before.before.kind_at-k.ensures in let z = c.if-k-gt-DATA_TYPE.true in record { room = λ e. contra e; yes = λ e. contra e; no = λ e a b. absurd (omega arith) }
 
-add-kind-at : tie.Need-overflow-add-kind-at
+add-kind-at : tie.Need-overflow_add-p
 add-kind-at c =
-    let k = c.before.before.kind_at.ensures in
-    let z = c.if2.false in
+    let k = c.before.before.kind_at-k.ensures in
+    let z = c.if-k-gt-DATA_TYPE.false in
     let i = kind_inside c.before.before.before.before.args.kinds.now c.before.before.before.before.args.p (omega arith) in
     omega arith
 
-returns-3 : tie.Need-returns-3
-returns-3 c = let k = c.before.kind-at2.ensures in record { room = λ e. contra e; yes = λ e. contra e; no = λ e a b q. c.if3.true (k ∙ q) }
+returns-3 : tie.Need-returns-then-kind_at-ne-LEFT_PARENTHESIS
+returns-3 c = let k = c.before.kind_at.ensures in record { room = λ e. contra e; yes = λ e. contra e; no = λ e a b q. c.if-kind_at-ne-LEFT_PARENTHESIS.true (k ∙ q) }
 
-returns-4 : tie.Need-returns-4
+returns-4 : tie.Need-returns
 returns-4 c =
-    let k = c.before.before.before.before.kind_at.ensures in
-    let k2 = c.before.kind-at2.ensures in
-    let z = c.if3.false in
-    let z1 = c.before.before.before.if1.false in
-    let z2 = c.before.before.if2.false in
+    let k = c.before.before.before.before.kind_at-k.ensures in
+    let k2 = c.before.kind_at.ensures in
+    let z = c.if-kind_at-ne-LEFT_PARENTHESIS.false in
+    let z1 = c.before.before.before.if-k-lt-OTHER_ATOM.false in
+    let z2 = c.before.before.if-k-gt-DATA_TYPE.false in
     record { room = λ e. kind_inside c.before.before.before.before.before.before.args.kinds.now _ (omega arith); yes = λ e. (omega arith, omega arith); no = λ e. contra (sym e) }
 
 pub calls_spec : {M : Type 1} → statement M

@@ -9,15 +9,15 @@ use borrow.Author.Rules.{rules}
 use Rattle.expression_reader.proofs.single.closed.Statement.{statement}
 use Rattle.expression_reader.proofs.single.closed.Tie as tie
 
-returns : tie.Need-returns
+returns : tie.Need-returns-then-kinds-m
 returns c = record {
   next = λ e. contra (sym c.refused.ensures ∙ e);
   used = λ e. contra (sym c.refused.ensures ∙ e);
   beside = beside_none _ _ _;
-  done = λ text places lengths z b r t es e s o h g hd lg l k. absurd (let i = stand_length s in let z = c.before.if1.true in omega arith);
+  done = λ text places lengths z b r t es e s o h g hd lg l k. absurd (let i = stand_length s in let z = c.before.if-kinds-m.true in omega arith);
 }
 
-returns-2 : tie.Need-returns-2
+returns-2 : tie.Need-returns
 returns-2 c = record {
   next = λ e. refl;
   used = λ e. refl;
@@ -25,8 +25,8 @@ returns-2 c = record {
   done = λ text places lengths z b r t es e s o h g hd lg l k. closed_done _ _ s o h g hd lg l k c.before.deeper.ensures c.elements.ensures.0 c.elements.ensures.1 c.before.before.before.before.before.before.put.ensures;
 }
 
-pub closed-spec : {M : Type 1} → statement M
-closed-spec =
+pub closed_spec : {M : Type 1} → statement M
+closed_spec =
     tie.close
     (tie.spec
     (λ c κs. search rules)

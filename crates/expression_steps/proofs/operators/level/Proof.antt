@@ -5,13 +5,13 @@ use Rattle.expression_steps.specs.Levels.{level_of}
 use Rattle.expression_steps.proofs.operators.level.Statement.{statement}
 use Rattle.expression_steps.proofs.operators.level.Tie as tie
 
-returns-20 : tie.Need-returns-20
+returns-20 : tie.Need-returns-in_default
 returns-20 c =
-    let r = c.match.rest in
+    let r = c.in_default.rest in
     simp (ne_eqb _ 45 r.0.0.0.0.0.0.0.0.0.0.0.0.0.0.0.0.0.0.1, ne_eqb _ 46 r.0.0.0.0.0.0.0.0.0.0.0.0.0.0.0.0.0.1, ne_eqb _ 3 r.0.0.0.0.0.0.0.0.0.0.0.0.0.0.0.0.1, ne_eqb _ 4 r.0.0.0.0.0.0.0.0.0.0.0.0.0.0.0.1, ne_eqb _ 32 r.0.0.0.0.0.0.0.0.0.0.0.0.0.0.1, ne_eqb _ 33 r.0.0.0.0.0.0.0.0.0.0.0.0.0.1, ne_eqb _ 43 r.0.0.0.0.0.0.0.0.0.0.0.0.1, ne_eqb _ 81 r.0.0.0.0.0.0.0.0.0.0.0.1, ne_eqb _ 84 r.0.0.0.0.0.0.0.0.0.0.1, ne_eqb _ 85 r.0.0.0.0.0.0.0.0.0.1, ne_eqb _ 86 r.0.0.0.0.0.0.0.0.1, ne_eqb _ 87 r.0.0.0.0.0.0.0.1, ne_eqb _ 88 r.0.0.0.0.0.0.1, ne_eqb _ 89 r.0.0.0.0.0.1, ne_eqb _ 90 r.0.0.0.0.1, ne_eqb _ 91 r.0.0.0.1, ne_eqb _ 92 r.0.0.1, ne_eqb _ 93 r.0.1, ne_eqb _ 94 r.1)
 
-pub level-spec : {M : Type 1} → statement M
-level-spec =
+pub level_spec : {M : Type 1} → statement M
+level_spec =
     tie.close
     (tie.spec
     (λ c. ap level_of (sym c.match.keys1)) (λ c. ap level_of (sym c.match.keys2)) (λ c. ap level_of (sym c.match.keys3)) (λ c. ap level_of (sym c.match.keys4))

@@ -9,8 +9,8 @@ use Rattle.guideline_turns.proofs.lines.answer.Tie as tie
 returns : tie.Need-returns
 returns c = λ k u h. record { onward = λ e. plain_went k _ c.before.before.before.before.before.before.before.requires (omega arith) refl h; done = λ w r m rs f x. answer_gives f _ _ _ c.before.before.kind_at.ensures c.before.cell.ensures c.answer.ensures x }
 
-pub answer-spec : {M : Type 1} → statement M
-answer-spec =
+pub answer_spec : {M : Type 1} → statement M
+answer_spec =
     tie.close
     (tie.spec
     (λ c. search rules) (λ c κs. search rules) (λ c κs. search rules) (λ c. search rules) (λ c κs. search rules)

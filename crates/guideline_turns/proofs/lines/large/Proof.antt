@@ -3,17 +3,17 @@ use mathlib.Core.Logic.{inl, inr}
 use Rattle.guideline_turns.proofs.lines.large.Statement.{statement}
 use Rattle.guideline_turns.proofs.lines.large.Tie as tie
 
-returns : tie.Need-returns
-returns c = inl c.if1.true
+returns : tie.Need-returns-then-depth-gt-DEPTH
+returns c = inl c.if-depth-gt-DEPTH.true
 
-returns-2 : tie.Need-returns-2
-returns-2 c = inr c.if2.true
+returns-2 : tie.Need-returns-then-longest-gt-LIST_LIMIT
+returns-2 c = inr c.if-longest-gt-LIST_LIMIT.true
 
-returns-3 : tie.Need-returns-3
-returns-3 c = (c.before.if1.false, c.if2.false)
+returns-3 : tie.Need-returns
+returns-3 c = (c.before.if-depth-gt-DEPTH.false, c.if-longest-gt-LIST_LIMIT.false)
 
-pub large-spec : {M : Type 1} → statement M
-large-spec =
+pub large_spec : {M : Type 1} → statement M
+large_spec =
     tie.close
     (tie.spec
     returns

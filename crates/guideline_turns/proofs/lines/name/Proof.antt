@@ -7,10 +7,10 @@ use Rattle.guideline_turns.proofs.lines.name.Statement.{statement}
 use Rattle.guideline_turns.proofs.lines.name.Tie as tie
 
 returns : tie.Need-returns
-returns c = λ k u h. record { onward = λ e. plain_went k _ c.before.before.before.before.before.before.before.requires (omega arith) refl h; done = λ w r m rs f x. name_gives f _ _ _ c.before.before.kind_at.ensures c.before.cell.ensures c.cell2.ensures x }
+returns c = λ k u h. record { onward = λ e. plain_went k _ c.before.before.before.before.before.before.before.requires (omega arith) refl h; done = λ w r m rs f x. name_gives f _ _ _ c.before.before.kind_at.ensures c.before.cell.ensures c.cell-2.ensures x }
 
-pub name-spec : {M : Type 1} → statement M
-name-spec =
+pub name_spec : {M : Type 1} → statement M
+name_spec =
     tie.close
     (tie.spec
     (λ c. search rules) (λ c κs. search rules) (λ c κs. search rules) (λ c. search rules) (λ c. search rules) (λ c κs. search rules)

@@ -9,8 +9,8 @@ use Rattle.guideline_turns.proofs.lines.task.Tie as tie
 returns : tie.Need-returns
 returns c = λ k u h. record { onward = λ e. plain_went k _ c.before.before.before.before.before.before.requires (omega arith) refl h; done = λ w r m rs f x. task_gives f _ _ c.before.kind_at.ensures c.cell.ensures x }
 
-pub task-spec : {M : Type 1} → statement M
-task-spec =
+pub task_spec : {M : Type 1} → statement M
+task_spec =
     tie.close
     (tie.spec
     (λ c. search rules) (λ c κs. search rules) (λ c. search rules) (λ c. search rules) (λ c κs. search rules)

@@ -4,17 +4,17 @@ use Rattle.guideline_walk.specs.TotalLaws.{least_start, least_earlier, least_lat
 use Rattle.guideline_walk.proofs.adding.least.Statement.{statement}
 use Rattle.guideline_walk.proofs.adding.least.Tie as tie
 
-returns : tie.Need-returns
-returns c = let a = c.before.args in least_start a.some a.place a.start (not-true _ c.if1.true)
+returns : tie.Need-returns-then-not-some
+returns c = let a = c.before.args in least_start a.some a.place a.start (not-true _ c.if-not-some.true-raw)
 
-returns-2 : tie.Need-returns-2
-returns-2 c = let a = c.before.before.args in least_earlier a.some a.place a.start (not-false _ c.before.if1.false) c.if2.true
+returns-2 : tie.Need-returns-then-start-place
+returns-2 c = let a = c.before.before.args in least_earlier a.some a.place a.start (not-false _ c.before.if-not-some.false-raw) c.if-start-place.true-raw
 
-returns-3 : tie.Need-returns-3
-returns-3 c = let a = c.before.before.args in least_later a.some a.place a.start (not-false _ c.before.if1.false) c.if2.false
+returns-3 : tie.Need-returns
+returns-3 c = let a = c.before.before.args in least_later a.some a.place a.start (not-false _ c.before.if-not-some.false-raw) c.if-start-place.false-raw
 
-pub least-spec : {M : Type 1} → statement M
-least-spec =
+pub least_spec : {M : Type 1} → statement M
+least_spec =
     tie.close
     (tie.spec
     returns

@@ -4,14 +4,14 @@ use borrow.Author.Rules.{rules}
 use Rattle.guideline_walk.proofs.table.low.Statement.{statement}
 use Rattle.guideline_walk.proofs.table.low.Tie as tie
 
-returns : tie.Need-returns
-returns c = rw (lt-ltb _ _ c.if1.true)
+returns : tie.Need-returns-then-x-lt-CELL
+returns c = rw (lt-ltb _ _ c.if-x-lt-CELL.true)
 
-returns-2 : tie.Need-returns-2
-returns-2 c = rw (le-ltb _ _ c.if1.false)
+returns-2 : tie.Need-returns
+returns-2 c = rw (le-ltb _ _ c.if-x-lt-CELL.false)
 
-pub low-spec : {M : Type 1} → statement M
-low-spec =
+pub low_spec : {M : Type 1} → statement M
+low_spec =
     tie.close
     (tie.spec
     (λ c. search rules)

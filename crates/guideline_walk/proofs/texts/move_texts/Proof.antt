@@ -4,14 +4,14 @@ use borrow.Author.Rules.{rules}
 use Rattle.guideline_walk.proofs.texts.move_texts.Statement.{statement}
 use Rattle.guideline_walk.proofs.texts.move_texts.Tie as tie
 
-returns : tie.Need-returns
-returns c = texts_none c.if1.true
+returns : tie.Need-returns-then-end-eq0
+returns c = texts_none c.if-end-eq0.true
 
-returns-2 : tie.Need-returns-2
-returns-2 c = texts_moved c.before.before.before.before.before.before.before.if1.false c.before.before.before.before.gather.ensures
+returns-2 : tie.Need-returns
+returns-2 c = texts_moved c.before.before.before.before.before.before.before.if-end-eq0.false c.before.before.before.before.gather.ensures
 
-pub move-texts-spec : {M : Type 1} → statement M
-move-texts-spec =
+pub move_texts_spec : {M : Type 1} → statement M
+move_texts_spec =
     tie.close
     (tie.spec
     returns

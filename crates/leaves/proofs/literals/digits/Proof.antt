@@ -10,32 +10,32 @@ use borrow.Author.Rules.{rules}
 use Rattle.leaves.proofs.literals.digits.Statement.{statement}
 use Rattle.leaves.proofs.literals.digits.Tie as tie
 
-abbrev invariant-loop : tie.invariant-loop
+abbrev invariant-loop : tie.invariant-loop-m
 invariant-loop text at n v₀ i₀ m₀ v i m = (i + m ≡ at + n) × (v ≤ most) × (N.digits v (cells text i m) ≡ N.digits 0 (cells text at n))
 
-abbrev decreases-loop : tie.decreases-loop
+abbrev decreases-loop : tie.decreases-loop-m
 decreases-loop text at n v₀ i₀ m₀ v i m = m
 
-loop-holds : tie.Need-loop-init invariant-loop decreases-loop
+loop-holds : tie.Need-loop-m-init invariant-loop decreases-loop
 loop-holds c = (refl, omega arith, refl)
 
-loop-again : tie.Need-loop-preserved invariant-loop decreases-loop
+loop-again : tie.Need-loop-m-preserved invariant-loop decreases-loop
 loop-again c =
-    let l = c.before.before.before.loop in
+    let l = c.before.before.before.loop-m in
     let t = c.before.before.before.before.before.args.text.now in
-    let g = c.grown.ensures in
+    let g = c.grown-v.ensures in
     let y = c.before.byte.ensures in
     let k = l.invariant.2 in
-    (omega arith, g.1, rw (g.0, y) (rw (cells_more t l.i l.m c.before.before.loop-test.true) at k))
+    (omega arith, g.1, rw (g.0, y) (rw (cells_more t l.i l.m c.before.before.loop-m-test.true) at k))
 
 returns : tie.Need-returns invariant-loop decreases-loop
 returns c =
-    let l = c.before.loop in
+    let l = c.before.loop-m in
     let k = l.invariant.2 in
-    (rw (cells_none c.before.before.before.args.text.now l.i l.m c.loop-test.false) at k, l.invariant.1)
+    (rw (cells_none c.before.before.before.args.text.now l.i l.m c.loop-m-test.false) at k, l.invariant.1)
 
-pub digits-spec : {M : Type 1} → statement M
-digits-spec =
+pub digits_spec : {M : Type 1} → statement M
+digits_spec =
     tie.close
     (tie.spec
     invariant-loop

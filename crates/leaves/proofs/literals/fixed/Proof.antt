@@ -12,45 +12,45 @@ use borrow.Author.Rules.{rules}
 use Rattle.leaves.proofs.literals.fixed.Statement.{statement}
 use Rattle.leaves.proofs.literals.fixed.Tie as tie
 
-abbrev invariant-loop : tie.invariant-loop
+abbrev invariant-loop : tie.invariant-loop-m
 invariant-loop text at n v₀ i₀ m₀ v i m = (i + m ≡ at + n) × (v ≤ most) × (N.fixed v (cells text i m) ≡ N.fixed 0 (cells text at n))
 
-abbrev decreases-loop : tie.decreases-loop
+abbrev decreases-loop : tie.decreases-loop-m
 decreases-loop text at n v₀ i₀ m₀ v i m = m
 
-loop-holds : tie.Need-loop-init invariant-loop decreases-loop
+loop-holds : tie.Need-loop-m-init invariant-loop decreases-loop
 loop-holds c = (refl, omega arith, refl)
 
-returns : tie.Need-returns invariant-loop decreases-loop
+returns : tie.Need-returns-then-b-eq46 invariant-loop decreases-loop
 returns c =
-    let l = c.before.before.before.before.loop in
+    let l = c.before.before.before.before.loop-m in
     let t = c.before.before.before.before.before.before.args.text.now in
     let h = c.three.ensures in
-    let y = c.before.before.byte.ensures in
+    let y = c.before.before.byte-b.ensures in
     let k = l.invariant.2 in
-    let p = eq-eqb (get_or t l.i 0) 46 (sym y ∙ c.before.if1.true) in
+    let p = eq-eqb (get_or t l.i 0) 46 (sym y ∙ c.before.if-b-eq46.true) in
     let b = l.invariant.1 in
-    (rw h.0 (rw (cells_more t l.i l.m c.before.before.before.loop-test.true, p) at k), omega arith)
+    (rw h.0 (rw (cells_more t l.i l.m c.before.before.before.loop-m-test.true, p) at k), omega arith)
 
-loop-again : tie.Need-loop-preserved invariant-loop decreases-loop
+loop-again : tie.Need-loop-m-preserved invariant-loop decreases-loop
 loop-again c =
-    let l = c.before.before.before.before.loop in
+    let l = c.before.before.before.before.loop-m in
     let t = c.before.before.before.before.before.before.args.text.now in
-    let g = c.grown.ensures in
-    let y = c.before.before.byte.ensures in
+    let g = c.grown-v.ensures in
+    let y = c.before.before.byte-b.ensures in
     let k = l.invariant.2 in
-    let p = ne_eqb (get_or t l.i 0) 46 (λ q. c.before.if1.false (y ∙ q)) in
-    (omega arith, g.1, rw (g.0, y) (rw (cells_more t l.i l.m c.before.before.before.loop-test.true, p) at k))
+    let p = ne_eqb (get_or t l.i 0) 46 (λ q. c.before.if-b-eq46.false (y ∙ q)) in
+    (omega arith, g.1, rw (g.0, y) (rw (cells_more t l.i l.m c.before.before.before.loop-m-test.true, p) at k))
 
-returns-2 : tie.Need-returns-2 invariant-loop decreases-loop
+returns-2 : tie.Need-returns invariant-loop decreases-loop
 returns-2 c =
-    let l = c.before.loop in
+    let l = c.before.loop-m in
     let k = l.invariant.2 in
     let b = l.invariant.1 in
-    (rw (cells_none c.before.before.before.args.text.now l.i l.m c.loop-test.false) at k, omega arith)
+    (rw (cells_none c.before.before.before.args.text.now l.i l.m c.loop-m-test.false) at k, omega arith)
 
-pub fixed-spec : {M : Type 1} → statement M
-fixed-spec =
+pub fixed_spec : {M : Type 1} → statement M
+fixed_spec =
     tie.close
     (tie.spec
     invariant-loop

@@ -9,8 +9,8 @@ use Rattle.leaves.proofs.literals.float.Tie as tie
 returns : tie.Need-returns
 returns c =
     let a = c.before.before.before.before.args in
-    let u = c.before.before.unsigned.ensures in
+    let u = c.before.before.unsigned-s.ensures in
     rw (c.load_of.ensures, c.before.fixed.ensures.0, u.0, u.2) (N.signed_is (N.fixed 0) (cells a.text.now a.at a.n))
 
-pub float-spec : {M : Type 1} → statement M
-float-spec = tie.close (tie.spec (λ c κs. search rules) (λ c κs. search rules) (λ c κs. search rules) returns)
+pub float_spec : {M : Type 1} → statement M
+float_spec = tie.close (tie.spec (λ c κs. search rules) (λ c κs. search rules) (λ c κs. search rules) returns)

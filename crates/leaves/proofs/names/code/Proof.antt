@@ -9,5 +9,5 @@ returns : tie.Need-returns
 unfolding name_codes
 returns c = cc
 
-pub code-spec : {M : Type 1} → statement M
-code-spec = tie.close (tie.spec (λ c. search rules) returns)
+pub code_spec : {M : Type 1} → statement M
+code_spec = tie.close (tie.spec (λ c. search rules) returns)

@@ -9,29 +9,29 @@ use Rattle.leaves.specs.Names.{name_bytes, name_lengths, name_at, rows_fit, code
 use Rattle.leaves.proofs.names.functor.Statement.{statement}
 use Rattle.leaves.proofs.names.functor.Tie as tie
 
-place-in-requires : tie.Need-place-in-requires
+place-in-requires : tie.Need-place_in-i-requires
 place-in-requires c κs = (
   c.before.before.before.before.before.requires,
-  subst (λ (l : List ℕ). Rows l c.before.before.lengths.result 13 16) (sym c.before.before.before.names.ensures)
-      (subst (λ (l : List ℕ). Rows name_bytes l 13 16) (sym c.before.before.lengths.ensures) rows_fit),
+  subst (λ (l : List ℕ). Rows l c.before.before.lengths-lengths.result 13 16) (sym c.before.before.before.names-names.ensures)
+      (subst (λ (l : List ℕ). Rows name_bytes l 13 16) (sym c.before.before.lengths-lengths.ensures) rows_fit),
 )
 
 -- the place is that among the names of the definition
-placed : (c : tie.After-place-in) → c.IsPlace-in.result ≡ place_from name_at (cells c.before.before.before.before.before.before.args.text.now c.before.before.before.before.before.before.args.at c.before.before.before.before.before.before.args.n) 0 13
-placed c = rw (sym c.before.before.before.before.names.ensures, sym c.before.before.before.lengths.ensures) c.IsPlace-in.ensures
+placed : (c : tie.After-place_in-i) → c.IsPlace-in.result ≡ place_from name_at (cells c.before.before.before.before.before.before.args.text.now c.before.before.before.before.before.before.args.at c.before.before.before.before.before.before.args.n) 0 13
+placed c = rw (sym c.before.before.before.before.names-names.ensures, sym c.before.before.before.lengths-lengths.ensures) c.IsPlace-in.ensures
 
-returns : tie.Need-returns
+returns : tie.Need-returns-then-i-lt-FUNCTORS
 returns c =
     let a = c.before.before.before.before.before.before.before.before.args in
-    c.code.ensures ∙ code_at (cells a.text.now a.at a.n) c.before.before.IsPlace-in.result (placed c.before.before) c.before.if1.true
+    c.code.ensures ∙ code_at (cells a.text.now a.at a.n) c.before.before.IsPlace-in.result (placed c.before.before) c.before.if-i-lt-FUNCTORS.true
 
-returns-2 : tie.Need-returns-2
+returns-2 : tie.Need-returns
 returns-2 c =
     let a = c.before.before.before.before.before.before.before.args in
-    code_none (cells a.text.now a.at a.n) c.before.IsPlace-in.result (placed c.before) c.if1.false
+    code_none (cells a.text.now a.at a.n) c.before.IsPlace-in.result (placed c.before) c.if-i-lt-FUNCTORS.false
 
-pub functor-spec : {M : Type 1} → statement M
-functor-spec =
+pub functor_spec : {M : Type 1} → statement M
+functor_spec =
     tie.close
     (tie.spec
     (λ c κs. search rules) (λ c κs. search rules) (λ c. search rules) (λ c. search rules)

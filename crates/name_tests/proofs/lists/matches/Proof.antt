@@ -6,11 +6,11 @@ use Rattle.name_tests.specs.Lists.{matched}
 use Rattle.name_tests.proofs.lists.matches.Statement.{statement}
 use Rattle.name_tests.proofs.lists.matches.Tie as tie
 
-returns : tie.Need-returns
-returns c = let a = c.before.before.before.args in c.folds.ensures ∙ ap (λ (t : Bool). matched a.bytes.now t a.g a.h) (sym c.before.if1.true)
+returns : tie.Need-returns-then-folded
+returns c = let a = c.before.before.before.args in c.folds.ensures ∙ ap (λ (t : Bool). matched a.bytes.now t a.g a.h) (sym c.before.if-folded.true)
 
-returns-2 : tie.Need-returns-2
-returns-2 c = let a = c.before.before.before.args in c.same.ensures ∙ ap (λ (t : Bool). matched a.bytes.now t a.g a.h) (sym c.before.if1.false)
+returns-2 : tie.Need-returns
+returns-2 c = let a = c.before.before.before.args in c.same.ensures ∙ ap (λ (t : Bool). matched a.bytes.now t a.g a.h) (sym c.before.if-folded.false)
 
-pub matches-spec : {M : Type 1} → statement M
-matches-spec = tie.close (tie.spec (λ c κs. search rules) returns (λ c κs. search rules) returns-2)
+pub matches_spec : {M : Type 1} → statement M
+matches_spec = tie.close (tie.spec (λ c κs. search rules) returns (λ c κs. search rules) returns-2)

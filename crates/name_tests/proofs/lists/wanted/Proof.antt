@@ -6,11 +6,11 @@ use Rattle.name_tests.specs.Lists.{chosen}
 use Rattle.name_tests.proofs.lists.wanted.Statement.{statement}
 use Rattle.name_tests.proofs.lists.wanted.Tie as tie
 
-returns : tie.Need-returns
-returns c = c.is_task.ensures ∙ ap (λ (t : Bool). chosen t c.before.before.args.k) (sym c.before.if1.true)
+returns : tie.Need-returns-then-tasks
+returns c = c.is_task.ensures ∙ ap (λ (t : Bool). chosen t c.before.before.args.k) (sym c.before.if-tasks.true)
 
-returns-2 : tie.Need-returns-2
-returns-2 c = ap (λ (t : Bool). chosen t c.before.args.k) (sym c.if1.false)
+returns-2 : tie.Need-returns
+returns-2 c = ap (λ (t : Bool). chosen t c.before.args.k) (sym c.if-tasks.false)
 
-pub wanted-spec : {M : Type 1} → statement M
-wanted-spec = tie.close (tie.spec (λ c κs. search rules) returns returns-2)
+pub wanted_spec : {M : Type 1} → statement M
+wanted_spec = tie.close (tie.spec (λ c κs. search rules) returns returns-2)

@@ -4,11 +4,11 @@ use Rattle.names.specs.Verdict.{spot_word, spot_name}
 use Rattle.names.proofs.flaws.spot.Statement.{statement}
 use Rattle.names.proofs.flaws.spot.Tie as tie
 
-returns : tie.Need-returns
-returns c = let a = c.before.before.before.before.before.args in spot_word a.rows.now a.j c.before.before.before.kind.ensures c.before.before.once.ensures c.before.if1.true c.word.ensures
+returns : tie.Need-returns-then-once
+returns c = let a = c.before.before.before.before.before.args in spot_word a.rows.now a.j c.before.before.before.kind.ensures c.before.before.once.ensures c.before.if-once.true c.word.ensures
 
-returns-2 : tie.Need-returns-2
-returns-2 c = let a = c.before.before.before.before.before.args in spot_name a.rows.now a.j c.before.before.before.kind.ensures c.before.before.once.ensures c.before.if1.false c.place.ensures
+returns-2 : tie.Need-returns
+returns-2 c = let a = c.before.before.before.before.before.args in spot_name a.rows.now a.j c.before.before.before.kind.ensures c.before.before.once.ensures c.before.if-once.false c.place.ensures
 
-pub spot-spec : {M : Type 1} → statement M
-spot-spec = tie.close (tie.spec (λ c κs. search rules) (λ c κs. search rules) (λ c κs. search rules) returns (λ c κs. search rules) returns-2)
+pub spot_spec : {M : Type 1} → statement M
+spot_spec = tie.close (tie.spec (λ c κs. search rules) (λ c κs. search rules) (λ c κs. search rules) returns (λ c κs. search rules) returns-2)

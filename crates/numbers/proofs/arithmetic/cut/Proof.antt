@@ -8,10 +8,10 @@ use borrow.Author.Rules.{rules}
 use Rattle.numbers.proofs.arithmetic.cut.Statement.{statement}
 use Rattle.numbers.proofs.arithmetic.cut.Tie as tie
 
-fits : (c : tie.After-struct-told2) → SFits w64 (quot_z c.before.before.args.n.z c.before.before.args.d.z)
+fits : (c : tie.After-struct_told-2-1) → SFits w64 (quot_z c.before.before.args.n.z c.before.before.args.d.z)
 fits c = let s = c.before.before in fits_quot s.args.n.z s.args.d.z s.requires.0
 
-div-t5 : tie.Need-nonzero-div-t5
+div-t5 : tie.Need-nonzero_div-result
 div-t5 c =
     let f : SFits w64 c.before.before.args.n.z = search rules in
     let g : SFits w64 c.before.before.args.d.z = search rules in

@@ -8,10 +8,10 @@ use borrow.Author.Rules.{rules}
 use Rattle.numbers.proofs.arithmetic.difference.Statement.{statement}
 use Rattle.numbers.proofs.arithmetic.difference.Tie as tie
 
-fits : (c : tie.After-struct-told2) → SFits w64 (c.before.before.args.a.z -ℤ c.before.before.args.b.z)
+fits : (c : tie.After-struct_told-2-1) → SFits w64 (c.before.before.args.a.z -ℤ c.before.before.args.b.z)
 fits c = let s = c.before.before in fits_sub s.args.a.z s.args.b.z s.requires.0 s.requires.1
 
-sub-t5 : tie.Need-overflow-sub-t5
+sub-t5 : tie.Need-overflow_sub-result
 sub-t5 c =
     let f : SFits w64 c.before.before.args.a.z = search rules in
     let g : SFits w64 c.before.before.args.b.z = search rules in
@@ -23,5 +23,5 @@ returns c =
     let g : SFits w64 c.before.before.args.b.z = search rules in
     simp (to_z-of_z f, to_z-of_z g) (simp (to_z-of_z (fits c)))
 
-pub difference-spec : {M : Type 1} → statement M
-difference-spec = tie.close (tie.spec sub-t5 returns)
+pub difference_spec : {M : Type 1} → statement M
+difference_spec = tie.close (tie.spec sub-t5 returns)

@@ -9,5 +9,5 @@ use Rattle.numbers.proofs.arithmetic.is_zero.Tie as tie
 returns : tie.Need-returns
 returns c = let f : SFits w64 c.before.args.w.z = search rules in zero_bits c.before.args.w.z f
 
-pub is-zero-spec : {M : Type 1} → statement M
-is-zero-spec = tie.close (tie.spec returns)
+pub is_zero_spec : {M : Type 1} → statement M
+is_zero_spec = tie.close (tie.spec returns)

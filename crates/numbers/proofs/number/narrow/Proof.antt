@@ -7,14 +7,14 @@ use borrow.Author.Rules.{rules}
 use Rattle.numbers.proofs.number.narrow.Statement.{statement}
 use Rattle.numbers.proofs.number.narrow.Tie as tie
 
-fits : (c : tie.After-struct-told) → SFits w32 c.before.args.w.z
+fits : (c : tie.After-struct_told-1) → SFits w32 c.before.args.w.z
 fits c = narrow_fits c.before.args.w.z c.before.requires
 
-cast-t3 : tie.Need-overflow-cast-t3
+cast-t3 : tie.Need-overflow_cast-result
 cast-t3 c = let f : SFits w64 c.before.args.w.z = search rules in simp (to_z-of_z f) (fits c)
 
 returns : tie.Need-returns
 returns c = let f : SFits w64 c.before.args.w.z = search rules in simp (to_z-of_z f) (simp (to_z-of_z (fits c)))
 
-pub narrow-spec : {M : Type 1} → statement M
-narrow-spec = tie.close (tie.spec cast-t3 returns)
+pub narrow_spec : {M : Type 1} → statement M
+narrow_spec = tie.close (tie.spec cast-t3 returns)

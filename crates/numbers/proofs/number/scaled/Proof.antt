@@ -11,13 +11,13 @@ use borrow.Author.Rules.{rules}
 use Rattle.numbers.proofs.number.scaled.Statement.{statement}
 use Rattle.numbers.proofs.number.scaled.Tie as tie
 
-small : (c : tie.After-struct-told) → nat_abs (c.before.args.w.z *ℤ pos 1000) ≤ 2 ^ 41 * 1000
+small : (c : tie.After-struct_told-1) → nat_abs (c.before.args.w.z *ℤ pos 1000) ≤ 2 ^ 41 * 1000
 small c = mul_bound c.before.args.w.z (pos 1000) (2 ^ 41) 1000 c.before.requires (lit≤ tt)
 
-fits : (c : tie.After-struct-told) → SFits w64 (c.before.args.w.z *ℤ pos 1000)
+fits : (c : tie.After-struct_told-1) → SFits w64 (c.before.args.w.z *ℤ pos 1000)
 fits c = fits_mul c.before.args.w.z (pos 1000) (omega (arith, small c))
 
-mul-t3 : tie.Need-overflow-mul-t3
+mul-t3 : tie.Need-overflow_mul-result
 mul-t3 c = let f : SFits w64 c.before.args.w.z = search rules in simp (to_z-of_z f) (fits c)
 
 returns : tie.Need-returns
@@ -25,5 +25,5 @@ returns c =
     let f : SFits w64 c.before.args.w.z = search rules in
     (simp (to_z-of_z f) (simp (to_z-of_z (fits c))), simp (to_z-of_z f) (simp (to_z-of_z (fits c)) (omega (arith, small c))))
 
-pub scaled-spec : {M : Type 1} → statement M
-scaled-spec = tie.close (tie.spec mul-t3 returns)
+pub scaled_spec : {M : Type 1} → statement M
+scaled_spec = tie.close (tie.spec mul-t3 returns)

@@ -11,21 +11,21 @@ use borrow.Author.Rules.{rules}
 use Rattle.numbers.proofs.number.thousandths.Statement.{statement}
 use Rattle.numbers.proofs.number.thousandths.Tie as tie
 
-small : (c : tie.After-struct-told) → nat_abs (c.before.before.wide_of.result.z *ℤ pos 1000) ≤ 2 ^ 31 * 1000
-small c = mul_bound c.before.before.wide_of.result.z (pos 1000) (2 ^ 31) 1000 c.before.before.wide_of.ensures.1 (lit≤ tt)
+small : (c : tie.After-struct_told-1) → nat_abs (c.before.before.wide_of-w.result.z *ℤ pos 1000) ≤ 2 ^ 31 * 1000
+small c = mul_bound c.before.before.wide_of-w.result.z (pos 1000) (2 ^ 31) 1000 c.before.before.wide_of-w.ensures.1 (lit≤ tt)
 
-fits : (c : tie.After-struct-told) → SFits w64 (c.before.before.wide_of.result.z *ℤ pos 1000)
-fits c = fits_mul c.before.before.wide_of.result.z (pos 1000) (omega (arith, small c))
+fits : (c : tie.After-struct_told-1) → SFits w64 (c.before.before.wide_of-w.result.z *ℤ pos 1000)
+fits c = fits_mul c.before.before.wide_of-w.result.z (pos 1000) (omega (arith, small c))
 
-mul-t3 : tie.Need-overflow-mul-t3
+mul-t3 : tie.Need-overflow_mul-result
 mul-t3 c =
-    let f : SFits w64 c.before.before.wide_of.result.z = search rules in
+    let f : SFits w64 c.before.before.wide_of-w.result.z = search rules in
     simp (to_z-of_z f) (fits c)
 
 returns : tie.Need-returns
 returns c =
-    let f : SFits w64 c.before.before.wide_of.result.z = search rules in
-    (simp (to_z-of_z f) (simp (to_z-of_z (fits c)) (simp c.before.before.wide_of.ensures.0)), simp (to_z-of_z f) (simp (to_z-of_z (fits c)) (omega (arith, small c))))
+    let f : SFits w64 c.before.before.wide_of-w.result.z = search rules in
+    (simp (to_z-of_z f) (simp (to_z-of_z (fits c)) (simp c.before.before.wide_of-w.ensures.0)), simp (to_z-of_z f) (simp (to_z-of_z (fits c)) (omega (arith, small c))))
 
-pub thousandths-spec : {M : Type 1} → statement M
-thousandths-spec = tie.close (tie.spec (λ c κs. search rules) mul-t3 returns)
+pub thousandths_spec : {M : Type 1} → statement M
+thousandths_spec = tie.close (tie.spec (λ c κs. search rules) mul-t3 returns)

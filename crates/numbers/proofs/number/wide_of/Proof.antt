@@ -7,7 +7,7 @@ use borrow.Author.Rules.{rules}
 use Rattle.numbers.proofs.number.wide_of.Statement.{statement}
 use Rattle.numbers.proofs.number.wide_of.Tie as tie
 
-cast-t3 : tie.Need-overflow-cast-t3
+cast-t3 : tie.Need-overflow_cast-result
 cast-t3 c =
     let f : SFits w32 c.before.args.n.z = search rules in
     simp (to_z-of_z f) (widened f)
@@ -17,5 +17,5 @@ returns c =
     let f : SFits w32 c.before.args.n.z = search rules in
     (simp (to_z-of_z f) (simp (to_z-of_z (widened f))), simp (to_z-of_z f) (simp (to_z-of_z (widened f)) (narrow_bound f)))
 
-pub wide-of-spec : {M : Type 1} → statement M
-wide-of-spec = tie.close (tie.spec cast-t3 returns)
+pub wide_of_spec : {M : Type 1} → statement M
+wide_of_spec = tie.close (tie.spec cast-t3 returns)

@@ -9,39 +9,39 @@ use Rattle.parts.specs.ItemLaws.{alike_from, alike_step, alike_stop, alike_end, 
 use Rattle.parts.proofs.names.alike.Statement.{statement}
 use Rattle.parts.proofs.names.alike.Tie as tie
 
-abbrev invariant-loop : tie.invariant-loop
+abbrev invariant-loop : tie.invariant-loop-i
 invariant-loop bytes x n y m i₀ i = (i ≤ n) × (alikeb (cells bytes x n) (cells bytes y n) ≡ alikeb (cells bytes (x + i) (n - i)) (cells bytes (y + i) (n - i)))
 
-abbrev decreases-loop : tie.decreases-loop
+abbrev decreases-loop : tie.decreases-loop-i
 decreases-loop bytes x n y m i₀ i = n - i
 
-returns : tie.Need-returns invariant-loop decreases-loop
-returns c = let a = c.before.before.args in sym (alike_long a.bytes.now _ _ a.x a.y c.if1.true)
+returns : tie.Need-returns-then-n-m invariant-loop decreases-loop
+returns c = let a = c.before.before.args in sym (alike_long a.bytes.now _ _ a.x a.y c.if-n-m.true)
 
-loop-holds : tie.Need-loop-init invariant-loop decreases-loop
+loop-holds : tie.Need-loop-i-init invariant-loop decreases-loop
 loop-holds c = let a = c.before.before.args in (omega arith, alike_from a.bytes.now a.x a.y a.n)
 
-returns-2 : tie.Need-returns-2 invariant-loop decreases-loop
+returns-2 : tie.Need-returns-then-letter invariant-loop decreases-loop
 returns-2 c =
     let a = c.before.before.before.before.before.before.before.args in
-    let l = c.before.before.before.before.loop in
-    let h = c.before.before.before.loop-test.true in
-    sym (ap (λ k. alikeb (cells a.bytes.now a.x a.n) (cells a.bytes.now a.y k)) (sym c.before.before.before.before.before.if1.false)
-    ∙ l.invariant.1 ∙ alike_stop a.bytes.now (a.x + l.i) (a.y + l.i) (a.n - l.i) (omega arith) (λ e. c.if2.true (c.before.before.letter.ensures ∙ e ∙ sym c.before.letter2.ensures)))
+    let l = c.before.before.before.before.loop-i in
+    let h = c.before.before.before.loop-i-test.true in
+    sym (ap (λ k. alikeb (cells a.bytes.now a.x a.n) (cells a.bytes.now a.y k)) (sym c.before.before.before.before.before.if-n-m.false)
+    ∙ l.invariant.1 ∙ alike_stop a.bytes.now (a.x + l.i) (a.y + l.i) (a.n - l.i) (omega arith) (λ e. c.if-letter.true (c.before.before.letter.ensures ∙ e ∙ sym c.before.letter-in-loop-i.ensures)))
 
-loop-again : tie.Need-loop-preserved invariant-loop decreases-loop
+loop-again : tie.Need-loop-i-preserved invariant-loop decreases-loop
 loop-again c =
     let a = c.before.before.before.before.before.before.before.args in
-    let l = c.before.before.before.before.loop in
-    let h = c.before.before.before.loop-test.true in
-    (omega arith, l.invariant.1 ∙ alike_step a.bytes.now a.x a.y a.n l.i h (sym c.before.before.letter.ensures ∙ c.if2.false ∙ c.before.letter2.ensures))
+    let l = c.before.before.before.before.loop-i in
+    let h = c.before.before.before.loop-i-test.true in
+    (omega arith, l.invariant.1 ∙ alike_step a.bytes.now a.x a.y a.n l.i h (sym c.before.before.letter.ensures ∙ c.if-letter.false ∙ c.before.letter-in-loop-i.ensures))
 
-returns-3 : tie.Need-returns-3 invariant-loop decreases-loop
+returns-3 : tie.Need-returns invariant-loop decreases-loop
 returns-3 c =
     let a = c.before.before.before.before.args in
-    let l = c.before.loop in
-    let h = c.loop-test.false in
-    sym (ap (λ k. alikeb (cells a.bytes.now a.x a.n) (cells a.bytes.now a.y k)) (sym c.before.before.if1.false)
+    let l = c.before.loop-i in
+    let h = c.loop-i-test.false in
+    sym (ap (λ k. alikeb (cells a.bytes.now a.x a.n) (cells a.bytes.now a.y k)) (sym c.before.before.if-n-m.false)
     ∙ l.invariant.1 ∙ alike_end a.bytes.now (a.x + l.i) (a.y + l.i) (a.n - l.i) (omega arith))
 
 pub alike_spec : {M : Type 1} → statement M

@@ -6,14 +6,14 @@ use borrow.Author.Rules.{rules}
 use Rattle.parts.proofs.names.at.Statement.{statement}
 use Rattle.parts.proofs.names.at.Tie as tie
 
-returns : tie.Need-returns
+returns : tie.Need-returns-then-bytes-x
 returns c = sym (get_or-eq_default c.before.args.bytes.now 0 (omega arith))
 
-returns-2 : tie.Need-returns-2
+returns-2 : tie.Need-returns-then-bytes-x-2
 returns-2 c = sym (get_or-eq_default c.before.before.args.bytes.now 0 (omega arith))
 
-pub at-spec : {M : Type 1} → statement M
-at-spec =
+pub at_spec : {M : Type 1} → statement M
+at_spec =
     tie.close
     (tie.spec
     returns

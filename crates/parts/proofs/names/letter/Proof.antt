@@ -8,5 +8,5 @@ use Rattle.parts.proofs.names.letter.Tie as tie
 returns : tie.Need-returns
 returns c = c.lower.ensures ∙ ap fold c.before.at.ensures
 
-pub letter-spec : {M : Type 1} → statement M
-letter-spec = tie.close (tie.spec (λ c κs. search rules) (λ c κs. search rules) returns)
+pub letter_spec : {M : Type 1} → statement M
+letter_spec = tie.close (tie.spec (λ c κs. search rules) (λ c κs. search rules) returns)

@@ -12,5 +12,5 @@ returns c =
     let a = c.before.before.before.before.before.before.args in
     c.matches.ensures ∙ ap (λ (z : ℕ). matched a.bytes.now a.folded z a.h) (c.before.handle.ensures ∙ ap (λ (z : ℕ). cell_of a.rows.now z 2) c.before.before.number.ensures)
 
-pub is-found-spec : {M : Type 1} → statement M
-is-found-spec = tie.close (tie.spec (λ c κs. search rules) (λ c κs. search rules) (λ c κs. search rules) returns)
+pub is_found_spec : {M : Type 1} → statement M
+is_found_spec = tie.close (tie.spec (λ c κs. search rules) (λ c κs. search rules) (λ c κs. search rules) returns)

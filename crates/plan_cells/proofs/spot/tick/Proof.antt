@@ -9,14 +9,14 @@ use Rattle.plan.specs.Writes.{one_if}
 use Rattle.plan_cells.proofs.spot.tick.Statement.{statement}
 use Rattle.plan_cells.proofs.spot.tick.Tie as tie
 
-returns : tie.Need-returns
-returns c = λ l. let a = c.before.args in let z : a.x ≡ a.x + 0 = omega arith in z ∙ sym (ap (λ (b : Bool). a.x + one_if b) (not-true a.counts c.if1.true))
+returns : tie.Need-returns-then-not-counts
+returns c = λ l. let a = c.before.args in let z : a.x ≡ a.x + 0 = omega arith in z ∙ sym (ap (λ (b : Bool). a.x + one_if b) (not-true a.counts c.if-not-counts.true-raw))
 
-returns-2 : tie.Need-returns-2
-returns-2 c = λ l. let a = c.before.before.args in sym (ap (λ (b : Bool). a.x + one_if b) (not-false a.counts c.before.if1.false))
+returns-2 : tie.Need-returns-then-x-lt-ROWS
+returns-2 c = λ l. let a = c.before.before.args in sym (ap (λ (b : Bool). a.x + one_if b) (not-false a.counts c.before.if-not-counts.false-raw))
 
-returns-3 : tie.Need-returns-3
-returns-3 c = λ l. absurd (let z = c.if2.false in omega arith)
+returns-3 : tie.Need-returns
+returns-3 c = λ l. absurd (let z = c.if-x-lt-ROWS.false-raw in omega arith)
 
-pub tick-spec : {M : Type 1} → statement M
-tick-spec = tie.close (tie.spec returns (λ c. search rules) returns-2 returns-3)
+pub tick_spec : {M : Type 1} → statement M
+tick_spec = tie.close (tie.spec returns (λ c. search rules) returns-2 returns-3)

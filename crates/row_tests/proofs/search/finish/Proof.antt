@@ -10,35 +10,35 @@ use Rattle.row_tests.specs.Searched.{up_more}
 use Rattle.row_tests.proofs.search.finish.Statement.{statement}
 use Rattle.row_tests.proofs.search.finish.Tie as tie
 
-abbrev invariant-loop : tie.invariant-loop
+abbrev invariant-loop : tie.invariant-loop-i
 invariant-loop rows n j i₀ i = (j < i) × (i ≤ n) × ((m : ℕ) → j < m → m < i → head_kind (kind_of rows m) ≡ false)
 
-abbrev decreases-loop : tie.decreases-loop
+abbrev decreases-loop : tie.decreases-loop-i
 decreases-loop rows n j i₀ i = n - i
 
-returns : tie.Need-returns invariant-loop decreases-loop
-returns c = let l = c.if1.true in record { within = omega arith; behind = λ h. absurd (omega arith); clear = λ m a b. absurd (omega arith); head = λ a. absurd (omega arith) }
+returns : tie.Need-returns-then-n-j invariant-loop decreases-loop
+returns c = let l = c.if-n-j.true in record { within = omega arith; behind = λ h. absurd (omega arith); clear = λ m a b. absurd (omega arith); head = λ a. absurd (omega arith) }
 
-loop-holds : tie.Need-loop-init invariant-loop decreases-loop
+loop-holds : tie.Need-loop-i-init invariant-loop decreases-loop
 loop-holds c = (omega arith, omega arith, λ m a b. absurd (omega arith))
 
-tested : (c : tie.After-is-head invariant-loop decreases-loop) → c.is_head.result ≡ head_kind (kind_of c.before.before.before.before.before.before.args.rows.now c.before.before.before.loop.i)
+tested : (c : tie.After-is_head invariant-loop decreases-loop) → c.is_head.result ≡ head_kind (kind_of c.before.before.before.before.before.before.args.rows.now c.before.before.before.loop-i.i)
 tested c = c.is_head.ensures ∙ ap head_kind c.before.kind.ensures
 
-returns-2 : tie.Need-returns-2 invariant-loop decreases-loop
+returns-2 : tie.Need-returns-then-is_head invariant-loop decreases-loop
 returns-2 c =
-    let v = c.before.before.before.before.loop.invariant in
-    record { within = v.1; behind = λ l. v.0; clear = v.2; head = λ l u. sym (tested c.before) ∙ c.if2.true }
+    let v = c.before.before.before.before.loop-i.invariant in
+    record { within = v.1; behind = λ l. v.0; clear = v.2; head = λ l u. sym (tested c.before) ∙ c.if-is_head.true }
 
-loop-again : tie.Need-loop-preserved invariant-loop decreases-loop
+loop-again : tie.Need-loop-i-preserved invariant-loop decreases-loop
 loop-again c =
-    let v = c.before.before.before.before.loop.invariant in
-    (omega arith, omega arith, up_more (λ m. head_kind (kind_of c.before.before.before.before.before.before.before.args.rows.now m) ≡ false) v.2 (sym (tested c.before) ∙ c.if2.false))
+    let v = c.before.before.before.before.loop-i.invariant in
+    (omega arith, omega arith, up_more (λ m. head_kind (kind_of c.before.before.before.before.before.before.before.args.rows.now m) ≡ false) v.2 (sym (tested c.before) ∙ c.if-is_head.false))
 
-returns-3 : tie.Need-returns-3 invariant-loop decreases-loop
+returns-3 : tie.Need-returns invariant-loop decreases-loop
 returns-3 c =
-    let v = c.before.loop.invariant in
-    let z = c.loop-test.false in
+    let v = c.before.loop-i.invariant in
+    let z = c.loop-i-test.false in
     record { within = omega arith; behind = λ l. l; clear = λ m a b. v.2 m a (omega arith); head = λ l. absurd (omega arith) }
 
 pub finish_spec : {M : Type 1} → statement M

@@ -10,32 +10,32 @@ use Rattle.row_tests.specs.Searched.{below_head}
 use Rattle.row_tests.proofs.search.start.Statement.{statement}
 use Rattle.row_tests.proofs.search.start.Tie as tie
 
-abbrev invariant-loop : tie.invariant-loop
+abbrev invariant-loop : tie.invariant-loop-i
 invariant-loop rows j i₀ i = (i ≤ j) × ((m : ℕ) → i ≤ m → m < j → head_kind (kind_of rows m) ≡ false)
 
-abbrev decreases-loop : tie.decreases-loop
+abbrev decreases-loop : tie.decreases-loop-i
 decreases-loop rows j i₀ i = i
 
-loop-holds : tie.Need-loop-init invariant-loop decreases-loop
+loop-holds : tie.Need-loop-i-init invariant-loop decreases-loop
 loop-holds c = (omega arith, λ m a b. absurd (omega arith))
 
-tested : (c : tie.After-is-head invariant-loop decreases-loop) → c.is_head.result ≡ head_kind (kind_of c.before.before.before.before.before.args.rows.now (c.before.before.before.loop.i - 1))
+tested : (c : tie.After-is_head invariant-loop decreases-loop) → c.is_head.result ≡ head_kind (kind_of c.before.before.before.before.before.args.rows.now (c.before.before.before.loop-i.i - 1))
 tested c = c.is_head.ensures ∙ ap head_kind c.before.kind.ensures
 
-returns : tie.Need-returns invariant-loop decreases-loop
+returns : tie.Need-returns-then-is_head invariant-loop decreases-loop
 returns c =
-    let v = c.before.before.before.before.loop.invariant in
-    record { within = v.0; clear = v.1; head = λ l. sym (tested c.before) ∙ c.if1.true }
+    let v = c.before.before.before.before.loop-i.invariant in
+    record { within = v.0; clear = v.1; head = λ l. sym (tested c.before) ∙ c.if-is_head.true }
 
-loop-again : tie.Need-loop-preserved invariant-loop decreases-loop
+loop-again : tie.Need-loop-i-preserved invariant-loop decreases-loop
 loop-again c =
-    let v = c.before.before.before.before.loop.invariant in
-    (omega arith, below_head c.before.before.before.before.before.before.args.rows.now c.before.before.before.loop-test.true (sym (tested c.before) ∙ c.if1.false) v.1)
+    let v = c.before.before.before.before.loop-i.invariant in
+    (omega arith, below_head c.before.before.before.before.before.before.args.rows.now c.before.before.before.loop-i-test.true (sym (tested c.before) ∙ c.if-is_head.false) v.1)
 
-returns-2 : tie.Need-returns-2 invariant-loop decreases-loop
+returns-2 : tie.Need-returns invariant-loop decreases-loop
 returns-2 c =
-    let v = c.before.loop.invariant in
-    let z = c.loop-test.false in
+    let v = c.before.loop-i.invariant in
+    let z = c.loop-i-test.false in
     record { within = omega arith; clear = λ m a b. v.1 m (omega arith) b; head = λ l. absurd (omega arith) }
 
 pub start_spec : {M : Type 1} → statement M

@@ -8,8 +8,8 @@ use Rattle.script.proofs.calls.add.Tie as tie
 returns : tie.Need-returns
 returns c =
     let s = c.before.before.before.before.before.before.before.before.before.before.before.before.before.before.before.args.s.now in
-    let v = c.before.before.before.before.before.before.before.value.ensures in
-    (put_behind s c.before.before.before.before.before.before.before.before.before.before.before.number_at.ensures v.0, add_is s c.before.before.before.before.before.before.before.before.before.before.before.number_at.ensures v.1 c.behind.ensures)
+    let v = c.before.before.before.before.before.before.before.value-end.ensures in
+    (put_behind s c.before.before.before.before.before.before.before.before.before.before.before.number_at-item.ensures v.0, add_is s c.before.before.before.before.before.before.before.before.before.before.before.number_at-item.ensures v.1 c.behind.ensures)
 
 pub add_spec : {M : Type 1} → statement M
 add_spec =

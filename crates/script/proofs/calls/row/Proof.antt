@@ -5,7 +5,7 @@ use Rattle.script.proofs.calls.row.Statement.{statement}
 use Rattle.script.proofs.calls.row.Tie as tie
 
 returns : tie.Need-returns
-returns c = row_is c.before.before.before.before.args.s.now c.before.before.number_at.ensures c.before.number-at2.ensures c.number-at3.ensures
+returns c = row_is c.before.before.before.before.args.s.now c.before.before.number_at-kind.ensures c.before.number_at-component.ensures c.number_at-property.ensures
 
-pub row-spec : {M : Type 1} → statement M
-row-spec = tie.close (tie.spec (λ c κs. search rules) (λ c κs. search rules) (λ c κs. search rules) returns)
+pub row_spec : {M : Type 1} → statement M
+row_spec = tie.close (tie.spec (λ c κs. search rules) (λ c κs. search rules) (λ c κs. search rules) returns)

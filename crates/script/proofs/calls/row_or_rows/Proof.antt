@@ -9,17 +9,17 @@ use borrow.Author.Rules.{rules}
 use Rattle.script.proofs.calls.row_or_rows.Statement.{statement}
 use Rattle.script.proofs.calls.row_or_rows.Tie as tie
 
-returns : tie.Need-returns
+returns : tie.Need-returns-then-p
 returns c =
     let s = c.before.before.before.before.before.args.s.now in
     let at = c.before.before.before.before.before.args.at in
-    stands_not (row_line s (behind_word s at (bytes " "))) c.before.before.behind.ensures c.before.if1.true c.rows.ensures
+    stands_not (row_line s (behind_word s at (bytes " "))) c.before.before.behind-p.ensures c.before.if-p.true c.rows.ensures
 
-returns-2 : tie.Need-returns-2
+returns-2 : tie.Need-returns
 returns-2 c =
     let s = c.before.before.before.before.before.args.s.now in
     let at = c.before.before.before.before.before.args.at in
-    stands (rows_line s at) c.before.before.behind.ensures c.before.if1.false (c.row.ensures ∙ ap (λ (p : ℕ). row_line s p) c.before.before.behind.ensures)
+    stands (rows_line s at) c.before.before.behind-p.ensures c.before.if-p.false (c.row.ensures ∙ ap (λ (p : ℕ). row_line s p) c.before.before.behind-p.ensures)
 
-pub row-or-rows-spec : {M : Type 1} → statement M
-row-or-rows-spec = tie.close (tie.spec (λ c. search rules) (λ c κs. search rules) (λ c κs. search rules) returns (λ c κs. search rules) returns-2)
+pub row_or_rows_spec : {M : Type 1} → statement M
+row_or_rows_spec = tie.close (tie.spec (λ c. search rules) (λ c κs. search rules) (λ c κs. search rules) returns (λ c κs. search rules) returns-2)

@@ -8,5 +8,5 @@ use Rattle.script.proofs.calls.rows.Tie as tie
 returns : tie.Need-returns
 returns c = ends_at Rows c.behind.ensures
 
-pub rows-spec : {M : Type 1} → statement M
-rows-spec = tie.close (tie.spec (λ c. search rules) (λ c κs. search rules) returns)
+pub rows_spec : {M : Type 1} → statement M
+rows_spec = tie.close (tie.spec (λ c. search rules) (λ c κs. search rules) returns)

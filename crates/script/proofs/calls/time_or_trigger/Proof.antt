@@ -11,23 +11,23 @@ use borrow.Author.Rules.{rules}
 use Rattle.script.proofs.calls.time_or_trigger.Statement.{statement}
 use Rattle.script.proofs.calls.time_or_trigger.Tie as tie
 
-returns : tie.Need-returns
+returns : tie.Need-returns-then-p
 returns c =
     let s = c.before.before.before.before.before.before.before.before.before.before.before.args.s.now in
     let at = c.before.before.before.before.before.before.before.before.before.before.before.args.at in
     let t = c.before.before.trigger.ensures in (
-      t.0 ∙ ap (λ (p : ℕ). trigger_in s p c.before.before.before.before.before.before.before.before.before.before.before.args.bytes.now) c.before.before.before.before.behind2.ensures ∙ when_nowhere (trigger_in s (behind_word s at (bytes "rigger ")) c.before.before.before.before.before.before.before.before.before.before.before.args.bytes.now) c.before.before.before.before.before.before.before.before.before.before.before.args.bytes.now c.before.before.before.before.before.before.before.behind.ensures c.before.before.before.before.before.before.if1.true,
-      stands_not (time_line s (behind_word s at (bytes "ime "))) c.before.before.before.before.before.before.before.behind.ensures c.before.before.before.before.before.before.if1.true (t.1 ∙ ap (λ (p : ℕ). trigger_line s p) c.before.before.before.before.behind2.ensures),
+      t.0 ∙ ap (λ (p : ℕ). trigger_in s p c.before.before.before.before.before.before.before.before.before.before.before.args.bytes-1.now) c.before.before.before.before.behind.ensures ∙ when_nowhere (trigger_in s (behind_word s at (bytes "rigger ")) c.before.before.before.before.before.before.before.before.before.before.before.args.bytes-1.now) c.before.before.before.before.before.before.before.before.before.before.before.args.bytes-1.now c.before.before.before.before.before.before.before.behind-p.ensures c.before.before.before.before.before.before.if-p.true,
+      stands_not (time_line s (behind_word s at (bytes "ime "))) c.before.before.before.before.before.before.before.behind-p.ensures c.before.before.before.before.before.before.if-p.true (t.1 ∙ ap (λ (p : ℕ). trigger_line s p) c.before.before.before.before.behind.ensures),
     )
 
-returns-2 : tie.Need-returns-2
+returns-2 : tie.Need-returns
 returns-2 c =
     let s = c.before.before.before.before.before.before.args.s.now in
     let at = c.before.before.before.before.before.before.args.at in
-    (when_stands (trigger_in s (behind_word s at (bytes "rigger ")) c.before.before.before.before.before.before.args.bytes.now) c.before.before.before.before.before.before.args.bytes.now c.before.before.behind.ensures c.before.if1.false, stands (trigger_line s (behind_word s at (bytes "rigger "))) c.before.before.behind.ensures c.before.if1.false (c.time.ensures ∙ ap (λ (p : ℕ). time_line s p) c.before.before.behind.ensures))
+    (when_stands (trigger_in s (behind_word s at (bytes "rigger ")) c.before.before.before.before.before.before.args.bytes-1.now) c.before.before.before.before.before.before.args.bytes-1.now c.before.before.behind-p.ensures c.before.if-p.false, stands (trigger_line s (behind_word s at (bytes "rigger "))) c.before.before.behind-p.ensures c.before.if-p.false (c.time.ensures ∙ ap (λ (p : ℕ). time_line s p) c.before.before.behind-p.ensures))
 
-pub time-or-trigger-spec : {M : Type 1} → statement M
-time-or-trigger-spec =
+pub time_or_trigger_spec : {M : Type 1} → statement M
+time_or_trigger_spec =
     tie.close
     (tie.spec
     (λ c. search rules) (λ c κs. search rules) (λ c. search rules) (λ c κs. search rules) (λ c κs. search rules) (λ c. search rules)

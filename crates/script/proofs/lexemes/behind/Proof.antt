@@ -9,41 +9,41 @@ use Rattle.script.specs.LexemesLaws.{word_done, word_past, word_other, word_same
 use Rattle.script.proofs.lexemes.behind.Statement.{statement}
 use Rattle.script.proofs.lexemes.behind.Tie as tie
 
-abbrev invariant-loop : tie.invariant-loop
+abbrev invariant-loop : tie.invariant-loop-i
 invariant-loop s at word p₀ i₀ p i = behind_word s p (drop i word) ≡ behind_word s at word
 
-abbrev decreases-loop : tie.decreases-loop
+abbrev decreases-loop : tie.decreases-loop-i
 decreases-loop s at word p₀ i₀ p i = length word - i
 
-loop-holds : tie.Need-loop-init invariant-loop decreases-loop
+loop-holds : tie.Need-loop-i-init invariant-loop decreases-loop
 loop-holds c = refl
 
-returns : tie.Need-returns invariant-loop decreases-loop
+returns : tie.Need-returns-then-s-p invariant-loop decreases-loop
 returns c =
     let a = c.before.before.before.args in
-    let l = c.before.before.loop in
+    let l = c.before.before.loop-i in
     sym (word_past a.s.now l.p a.word.now l.i (omega arith) (omega arith)) ∙ l.invariant
 
-returns-2 : tie.Need-returns-2 invariant-loop decreases-loop
+returns-2 : tie.Need-returns-then-s-p-2 invariant-loop decreases-loop
 returns-2 c =
     let a = c.before.before.before.before.before.before.args in
-    let l = c.before.before.before.before.before.loop in
-    sym (word_other a.s.now l.p a.word.now l.i (omega arith) (omega arith) c.if2.true) ∙ l.invariant
+    let l = c.before.before.before.before.before.loop-i in
+    sym (word_other a.s.now l.p a.word.now l.i (omega arith) (omega arith) c.if-s-p-2.true) ∙ l.invariant
 
-loop-again : tie.Need-loop-preserved invariant-loop decreases-loop
+loop-again : tie.Need-loop-i-preserved invariant-loop decreases-loop
 loop-again c =
     let a = c.before.before.before.before.before.before.args in
-    let l = c.before.before.before.before.before.loop in
-    sym (word_same a.s.now l.p a.word.now l.i (omega arith) (omega arith) c.if2.false) ∙ l.invariant
+    let l = c.before.before.before.before.before.loop-i in
+    sym (word_same a.s.now l.p a.word.now l.i (omega arith) (omega arith) c.if-s-p-2.false) ∙ l.invariant
 
-returns-3 : tie.Need-returns-3 invariant-loop decreases-loop
+returns-3 : tie.Need-returns invariant-loop decreases-loop
 returns-3 c =
     let a = c.before.before.args in
-    let l = c.before.loop in
+    let l = c.before.loop-i in
     sym (word_done a.s.now l.p a.word.now l.i (omega arith)) ∙ l.invariant
 
-pub behind-spec : {M : Type 1} → statement M
-behind-spec =
+pub behind_spec : {M : Type 1} → statement M
+behind_spec =
     tie.close
     (tie.spec
     invariant-loop

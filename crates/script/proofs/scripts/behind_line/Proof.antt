@@ -8,5 +8,5 @@ use Rattle.script.proofs.scripts.behind_line.Tie as tie
 returns : tie.Need-returns
 returns c = ap (λ (l : Line). l.next) c.before.before.before.line_at_lem.ensures.line_is
 
-pub behind-line-spec : {M : Type 1} → statement M
-behind-line-spec = tie.close (tie.spec (λ c. search rules) (λ c. search rules) (λ c. search rules) (λ c κs. search rules) returns)
+pub behind_line_spec : {M : Type 1} → statement M
+behind_line_spec = tie.close (tie.spec (λ c. search rules) (λ c. search rules) (λ c. search rules) (λ c κs. search rules) returns)

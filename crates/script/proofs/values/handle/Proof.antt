@@ -13,5 +13,5 @@ returns c =
     let small : a.place * 64 + a.n < 2 ^ 63 = omega (arith, c.requires.0, c.requires.1) in
     to_z_pos w64 small
 
-pub handle-spec : {M : Type 1} → statement M
-handle-spec = tie.close (tie.spec (λ c. search rules) (λ c. search rules) (λ c. search rules) returns)
+pub handle_spec : {M : Type 1} → statement M
+handle_spec = tie.close (tie.spec (λ c. search rules) (λ c. search rules) (λ c. search rules) returns)

@@ -18,11 +18,11 @@ turned (suc n) l = rw (lt-ltb 0 (suc n) (omega arith)) (record { sfits = omega a
 wide : (c : tie.Start) → c.args.n < 2 ^ 63
 wide c = omega (arith, c.requires)
 
-sub-result : tie.Need-overflow-sub-result
+sub-result : tie.Need-overflow_sub-result
 sub-result c = simp (to_z_pos w64 (wide c)) (turned c.args.n (omega (arith, c.requires)))
 
 returns : tie.Need-returns
 returns c = simp (to_z_pos w64 (wide c)) (to_z-of_z (turned c.args.n (omega (arith, c.requires))) ∙ +ℤ_idl (neg_ℤ (pos c.args.n)))
 
-pub negative-spec : {M : Type 1} → statement M
-negative-spec = tie.close (tie.spec (λ c. search rules) sub-result returns)
+pub negative_spec : {M : Type 1} → statement M
+negative_spec = tie.close (tie.spec (λ c. search rules) sub-result returns)

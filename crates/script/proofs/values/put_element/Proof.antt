@@ -12,14 +12,14 @@ use Rattle.script.proofs.values.put_element.Tie as tie
 returns : tie.Need-returns
 returns c =
     let a = c.before.before.before.before.before.before.before.before.before.before.before.before.before.before.before.args in
-    let e = c.before.before.before.before.before.before.before.before.before.before.element-at.ensures.0 in
-    let f : SFits w64 c.before.before.before.before.before.before.before.before.before.before.element-at.result.number = search rules in
-    let n = c.before.put-number.ensures in
+    let e = c.before.before.before.before.before.before.before.before.before.before.element_at-e.ensures.0 in
+    let f : SFits w64 c.before.before.before.before.before.before.before.before.before.before.element_at-e.result.number = search rules in
+    let n = c.before.put_number.ensures in
     let k = e.number_is in
-    (record { tags_are = c.before.before.before.before.before.before.put-cell.ensures ∙ ap (λ (x : ℕ). set a.tags.now (1 + a.i) x) e.tag_is; numbers_are = cc (to_z-of_z f); bytes_are = c.before.before.before.before.before.before.before.before.before.before.element-at.ensures.1 }, e.next_is)
+    (record { tags_are = c.before.before.before.before.before.before.put_cell.ensures ∙ ap (λ (x : ℕ). set a.tags-1.now (1 + a.i) x) e.tag_is; numbers_are = cc (to_z-of_z f); bytes_are = c.before.before.before.before.before.before.before.before.before.before.element_at-e.ensures.1 }, e.next_is)
 
-pub put-element-spec : {M : Type 1} → statement M
-put-element-spec =
+pub put_element_spec : {M : Type 1} → statement M
+put_element_spec =
     tie.close
     (tie.spec
     (λ c κs. search rules) (λ c. search rules) (λ c κs. search rules) (λ c. search rules) (λ c κs. search rules)

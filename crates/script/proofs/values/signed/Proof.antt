@@ -12,25 +12,25 @@ use borrow.Author.Rules.{rules}
 use Rattle.script.proofs.values.signed.Statement.{statement}
 use Rattle.script.proofs.values.signed.Tie as tie
 
-returns : tie.Need-returns
+returns : tie.Need-returns-then-p
 returns c =
     let a = c.before.before.before.before.before.args in
     let u = c.unsigned.ensures in
     record {
       tag_is = u.tag_is;
-      number_is = u.number_is ∙ when_nowhere (with_minus false (digits_at a.s.now a.at).value) (with_minus true (digits_at a.s.now (behind_word a.s.now a.at (bytes "-"))).value) c.before.before.behind.ensures c.before.if1.true;
-      next_is = u.next_is ∙ ap (λ (x : ℕ). up-to a.limit (digits_at a.s.now x)) (second_place c.before.before.behind.ensures c.before.if1.true refl);
+      number_is = u.number_is ∙ when_nowhere (with_minus false (digits_at a.s.now a.at).value) (with_minus true (digits_at a.s.now (behind_word a.s.now a.at (bytes "-"))).value) c.before.before.behind-p.ensures c.before.if-p.true;
+      next_is = u.next_is ∙ ap (λ (x : ℕ). up-to a.limit (digits_at a.s.now x)) (second_place c.before.before.behind-p.ensures c.before.if-p.true refl);
     }
 
-returns-2 : tie.Need-returns-2
+returns-2 : tie.Need-returns
 returns-2 c =
     let a = c.before.before.before.before.before.args in
-    let u = c.unsigned2.ensures in
+    let u = c.unsigned-2.ensures in
     record {
       tag_is = u.tag_is;
-      number_is = u.number_is ∙ ap (λ (x : ℕ). with_minus true (digits_at a.s.now x).value) c.before.before.behind.ensures ∙ when_stands (with_minus false (digits_at a.s.now a.at).value) (with_minus true (digits_at a.s.now (behind_word a.s.now a.at (bytes "-"))).value) c.before.before.behind.ensures c.before.if1.false;
-      next_is = u.next_is ∙ ap (λ (x : ℕ). up-to a.limit (digits_at a.s.now x)) (first_place a.at c.before.before.behind.ensures c.before.if1.false refl);
+      number_is = u.number_is ∙ ap (λ (x : ℕ). with_minus true (digits_at a.s.now x).value) c.before.before.behind-p.ensures ∙ when_stands (with_minus false (digits_at a.s.now a.at).value) (with_minus true (digits_at a.s.now (behind_word a.s.now a.at (bytes "-"))).value) c.before.before.behind-p.ensures c.before.if-p.false;
+      next_is = u.next_is ∙ ap (λ (x : ℕ). up-to a.limit (digits_at a.s.now x)) (first_place a.at c.before.before.behind-p.ensures c.before.if-p.false refl);
     }
 
-pub signed-spec : {M : Type 1} → statement M
-signed-spec = tie.close (tie.spec (λ c. search rules) (λ c κs. search rules) (λ c κs. search rules) returns (λ c κs. search rules) returns-2)
+pub signed_spec : {M : Type 1} → statement M
+signed_spec = tie.close (tie.spec (λ c. search rules) (λ c κs. search rules) (λ c κs. search rules) returns (λ c κs. search rules) returns-2)

@@ -5,7 +5,7 @@ use Rattle.script.proofs.values.single.Statement.{statement}
 use Rattle.script.proofs.values.single.Tie as tie
 
 returns : tie.Need-returns
-returns c = let p = c.before.before.before.before.before.before.before.before.before.put_element.ensures in (filled_single p.0 c.before.before.put-cell.ensures, p.1)
+returns c = let p = c.before.before.before.before.before.before.before.before.before.put_element-end.ensures in (filled_single p.0 c.before.before.put_cell.ensures, p.1)
 
-pub single-spec : {M : Type 1} → statement M
-single-spec = tie.close (tie.spec (λ c κs. search rules) (λ c κs. search rules) (λ c. search rules) (λ c. search rules) (λ c. search rules) returns)
+pub single_spec : {M : Type 1} → statement M
+single_spec = tie.close (tie.spec (λ c κs. search rules) (λ c κs. search rules) (λ c. search rules) (λ c. search rules) (λ c. search rules) returns)

@@ -9,14 +9,14 @@ use borrow.Author.Rules.{rules}
 use Rattle.script.proofs.values.truth.Statement.{statement}
 use Rattle.script.proofs.values.truth.Tie as tie
 
-returns : tie.Need-returns
+returns : tie.Need-returns-then-p
 returns c =
     let a = c.before.before.before.before.args in
-    record { tag_is = refl; number_is = when_stands (pos 1) (pos 0) c.before.behind.ensures c.if1.true; next_is = first_place (behind_word a.s.now a.at (bytes "1")) c.before.behind.ensures c.if1.true refl }
+    record { tag_is = refl; number_is = when_stands (pos 1) (pos 0) c.before.behind-p.ensures c.if-p.true; next_is = first_place (behind_word a.s.now a.at (bytes "1")) c.before.behind-p.ensures c.if-p.true refl }
 
-returns-2 : tie.Need-returns-2
+returns-2 : tie.Need-returns
 returns-2 c =
-    record { tag_is = refl; number_is = when_nowhere (pos 1) (pos 0) c.before.before.before.behind.ensures c.before.before.if1.false; next_is = second_place c.before.before.before.behind.ensures c.before.before.if1.false c.behind2.ensures }
+    record { tag_is = refl; number_is = when_nowhere (pos 1) (pos 0) c.before.before.before.behind-p.ensures c.before.before.if-p.false; next_is = second_place c.before.before.before.behind-p.ensures c.before.before.if-p.false c.behind.ensures }
 
-pub truth-spec : {M : Type 1} → statement M
-truth-spec = tie.close (tie.spec (λ c. search rules) (λ c κs. search rules) returns (λ c. search rules) (λ c κs. search rules) returns-2)
+pub truth_spec : {M : Type 1} → statement M
+truth_spec = tie.close (tie.spec (λ c. search rules) (λ c κs. search rules) returns (λ c. search rules) (λ c κs. search rules) returns-2)

@@ -14,8 +14,8 @@ returns : tie.Need-returns
 returns c =
     let a = c.before.before.before.before.args in
     let f : SFits w64 c.before.whole.result = search rules in
-    let e = c.before.whole.ensures ∙ ap (λ (x : Number). with_minus a.minus x.value) c.before.before.digits.ensures in
-    record { tag_is = refl; number_is = cc (to_z-of_z f); next_is = c.within.ensures ∙ ap (up-to a.limit) c.before.before.digits.ensures }
+    let e = c.before.whole.ensures ∙ ap (λ (x : Number). with_minus a.minus x.value) c.before.before.digits-d.ensures in
+    record { tag_is = refl; number_is = cc (to_z-of_z f); next_is = c.within.ensures ∙ ap (up-to a.limit) c.before.before.digits-d.ensures }
 
-pub unsigned-spec : {M : Type 1} → statement M
-unsigned-spec = tie.close (tie.spec (λ c κs. search rules) (λ c κs. search rules) (λ c κs. search rules) returns)
+pub unsigned_spec : {M : Type 1} → statement M
+unsigned_spec = tie.close (tie.spec (λ c κs. search rules) (λ c κs. search rules) (λ c κs. search rules) returns)

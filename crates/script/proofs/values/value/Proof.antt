@@ -5,17 +5,17 @@ use borrow.Author.Rules.{rules}
 use Rattle.script.proofs.values.value.Statement.{statement}
 use Rattle.script.proofs.values.value.Tie as tie
 
-returns : tie.Need-returns
+returns : tie.Need-returns-then-p
 returns c =
     let a = c.before.before.before.before.before.before.before.before.before.before.before.before.before.before.before.args in
     let p = c.before.before.before.before.before.single.ensures in
-    (value_single a.s.now a.at c.before.before.before.before.before.before.before.before.before.before.behind.ensures c.before.before.before.before.before.before.before.before.before.if1.true p.0, value_one a.s.now a.at c.before.before.before.before.before.before.before.before.before.before.behind.ensures c.before.before.before.before.before.before.before.before.before.if1.true p.1)
+    (value_single a.s.now a.at c.before.before.before.before.before.before.before.before.before.before.behind-p.ensures c.before.before.before.before.before.before.before.before.before.if-p.true p.0, value_one a.s.now a.at c.before.before.before.before.before.before.before.before.before.before.behind-p.ensures c.before.before.before.before.before.before.before.before.before.if-p.true p.1)
 
-returns-2 : tie.Need-returns-2
+returns-2 : tie.Need-returns
 returns-2 c =
     let a = c.before.before.before.before.before.before.before.before.before.before.before.before.before.before.before.args in
     let p = c.before.before.before.before.before.list.ensures in
-    (value_listed a.s.now a.at c.before.before.before.before.before.before.before.before.before.before.behind.ensures c.before.before.before.before.before.before.before.before.before.if1.false p.0, value_list a.s.now a.at c.before.before.before.before.before.before.before.before.before.before.behind.ensures c.before.before.before.before.before.before.before.before.before.if1.false p.1)
+    (value_listed a.s.now a.at c.before.before.before.before.before.before.before.before.before.before.behind-p.ensures c.before.before.before.before.before.before.before.before.before.if-p.false p.0, value_list a.s.now a.at c.before.before.before.before.before.before.before.before.before.before.behind-p.ensures c.before.before.before.before.before.before.before.before.before.if-p.false p.1)
 
 pub value_spec : {M : Type 1} → statement M
 value_spec =

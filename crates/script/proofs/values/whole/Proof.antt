@@ -20,21 +20,21 @@ module _ (n : ℕ) (m : Bool) (h : n ≤ 4611686018427387903) where
   plain-is : m ≡ false → pos n ≡ with_minus m n
   plain-is e = sym (ap (λ (t : Bool). cond t (pos 0) (cond m (neg_ℤ (pos n)) (pos n))) (le-ltb 4611686018427387903 n h) ∙ ap (λ (t : Bool). cond t (neg_ℤ (pos n)) (pos n)) e)
 
-returns : tie.Need-returns
+returns : tie.Need-returns-then-n-gt-REAL
 returns c = let a = c.before.args in simp (lt-ltb 4611686018427387903 a.n (omega arith))
 
-returns-2 : tie.Need-returns-2
+returns-2 : tie.Need-returns-then-minus
 returns-2 c =
     let a = c.before.before.before.args in
     let f : SFits w64 c.negative.result = search rules in
-    let e = c.negative.ensures ∙ minus_is a.n a.minus (omega arith) c.before.if2.true in
+    let e = c.negative.ensures ∙ minus_is a.n a.minus (omega arith) c.before.if-minus.true in
     cc (to_z-of_z f)
 
-returns-3 : tie.Need-returns-3
+returns-3 : tie.Need-returns
 returns-3 c =
     let a = c.before.before.args in
     let small : a.n < 2 ^ 63 = omega arith in
-    to_z_pos w64 small ∙ plain-is a.n a.minus (omega arith) c.if2.false
+    to_z_pos w64 small ∙ plain-is a.n a.minus (omega arith) c.if-minus.false
 
-pub whole-spec : {M : Type 1} → statement M
-whole-spec = tie.close (tie.spec returns (λ c κs. search rules) returns-2 (λ c. search rules) returns-3)
+pub whole_spec : {M : Type 1} → statement M
+whole_spec = tie.close (tie.spec returns (λ c κs. search rules) returns-2 (λ c. search rules) returns-3)

@@ -5,11 +5,11 @@ use borrow.Author.Rules.{rules}
 use Rattle.script.proofs.values.within.Statement.{statement}
 use Rattle.script.proofs.values.within.Tie as tie
 
-returns : tie.Need-returns
+returns : tie.Need-returns-then-limit-d
 returns c = let a = c.before.before.args in simp (lt-ltb a.limit a.d.value (omega arith))
 
-returns-2 : tie.Need-returns-2
+returns-2 : tie.Need-returns
 returns-2 c = let a = c.before.before.args in simp (le-ltb a.limit a.d.value (omega arith))
 
-pub within-spec : {M : Type 1} → statement M
-within-spec = tie.close (tie.spec returns returns-2)
+pub within_spec : {M : Type 1} → statement M
+within_spec = tie.close (tie.spec returns returns-2)

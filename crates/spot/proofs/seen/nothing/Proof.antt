@@ -17,5 +17,5 @@ returns c = record {
   begins = record { before = omega arith; whole = λ i a b. absurd (omega arith); first = inl refl };
 }
 
-pub nothing-spec : {M : Type 1} → statement M
-nothing-spec = tie.close (tie.spec returns)
+pub nothing_spec : {M : Type 1} → statement M
+nothing_spec = tie.close (tie.spec returns)

@@ -7,14 +7,14 @@ use Rattle.typer.specs.FittingLaws.{assigned_suits, assigned_none}
 use Rattle.typer.proofs.fitting.assignable.Statement.{statement}
 use Rattle.typer.proofs.fitting.assignable.Tie as tie
 
-returns : tie.Need-returns
+returns : tie.Need-returns-then-i-names
 returns c =
     let a = c.before.before.before.before.before.before.before.before.args in
     subst (Assignable a.bytes.now a.names.now a.types.now a.h a.found) (sym c.meets.ensures)
-    (assigned_suits a.bytes.now a.names.now a.types.now a.h c.before.before.before.before.find.result a.found c.before.inferred.result c.before.before.before.before.find.ensures c.before.before.before.if1.true (c.before.inferred.ensures ∙ ap inferred_of c.before.before.byte.ensures))
+    (assigned_suits a.bytes.now a.names.now a.types.now a.h c.before.before.before.before.find-i.result a.found c.before.inferred-wanted.result c.before.before.before.before.find-i.ensures c.before.before.before.if-i-names.true (c.before.inferred-wanted.ensures ∙ ap inferred_of c.before.before.byte.ensures))
 
-returns-2 : tie.Need-returns-2
-returns-2 c = let a = c.before.before.before.before.before.args in assigned_none a.bytes.now a.names.now a.types.now a.h c.before.find.result a.found c.before.find.ensures c.if1.false
+returns-2 : tie.Need-returns
+returns-2 c = let a = c.before.before.before.before.before.args in assigned_none a.bytes.now a.names.now a.types.now a.h c.before.find-i.result a.found c.before.find-i.ensures c.if-i-names.false
 
-pub assignable-spec : {M : Type 1} → statement M
-assignable-spec = tie.close (tie.spec (λ c κs. search rules) (λ c κs. search rules) (λ c κs. search rules) (λ c κs. search rules) returns returns-2)
+pub assignable_spec : {M : Type 1} → statement M
+assignable_spec = tie.close (tie.spec (λ c κs. search rules) (λ c κs. search rules) (λ c κs. search rules) (λ c κs. search rules) returns returns-2)

@@ -5,17 +5,17 @@ use Rattle.typer.specs.Lists.{integers_of}
 use Rattle.typer.proofs.lists.integers.Statement.{statement}
 use Rattle.typer.proofs.lists.integers.Tie as tie
 
-returns : tie.Need-returns
-returns c = ap integers_of (sym c.match.keys1)
+returns : tie.Need-returns-in-97
+returns c = ap integers_of (sym c.in-97.keys1)
 
-returns-2 : tie.Need-returns-2
-returns-2 c = ap integers_of (sym c.match.keys2)
+returns-2 : tie.Need-returns-in-105
+returns-2 c = ap integers_of (sym c.in-105.keys2)
 
-returns-3 : tie.Need-returns-3
-returns-3 c = ap integers_of (sym c.match.keys3)
+returns-3 : tie.Need-returns-in-114
+returns-3 c = ap integers_of (sym c.in-114.keys3)
 
-returns-4 : tie.Need-returns-4
-returns-4 c = simp (ne_eqb _ 97 c.match.rest.0.0.1, ne_eqb _ 105 c.match.rest.0.1, ne_eqb _ 114 c.match.rest.1)
+returns-4 : tie.Need-returns-in_default
+returns-4 c = simp (ne_eqb _ 97 c.in_default.rest.0.0.1, ne_eqb _ 105 c.in_default.rest.0.1, ne_eqb _ 114 c.in_default.rest.1)
 
-pub integers-spec : {M : Type 1} → statement M
-integers-spec = tie.close (tie.spec returns returns-2 returns-3 returns-4)
+pub integers_spec : {M : Type 1} → statement M
+integers_spec = tie.close (tie.spec returns returns-2 returns-3 returns-4)

@@ -9,7 +9,7 @@ use Rattle.typer.proofs.lists.push.Tie as tie
 returns : tie.Need-returns
 returns c =
     let a = c.before.args in
-    ap (λ (l : ℕ). record { typed = true; first = a.t; second = a.s.first; third = a.s.second; list = l }) c.join.ensures
+    ap (λ (l : ℕ). record { typed = true; first = a.t; second = a.s.first; third = a.s.second; list = l }) c.join-list.ensures
 
 pub push_spec : {M : Type 1} → statement M
 push_spec = tie.close (tie.spec (λ c κs. search rules) returns)

@@ -5,14 +5,14 @@ use Rattle.typer.specs.Lists.{texts_of}
 use Rattle.typer.proofs.lists.texts.Statement.{statement}
 use Rattle.typer.proofs.lists.texts.Tie as tie
 
-returns : tie.Need-returns
-returns c = ap texts_of (sym c.match.keys1)
+returns : tie.Need-returns-in-97
+returns c = ap texts_of (sym c.in-97.keys1)
 
-returns-2 : tie.Need-returns-2
-returns-2 c = ap texts_of (sym c.match.keys2)
+returns-2 : tie.Need-returns-in-116
+returns-2 c = ap texts_of (sym c.in-116.keys2)
 
-returns-3 : tie.Need-returns-3
-returns-3 c = simp (ne_eqb _ 97 c.match.rest.0.1, ne_eqb _ 116 c.match.rest.1)
+returns-3 : tie.Need-returns-in_default
+returns-3 c = simp (ne_eqb _ 97 c.in_default.rest.0.1, ne_eqb _ 116 c.in_default.rest.1)
 
-pub texts-spec : {M : Type 1} → statement M
-texts-spec = tie.close (tie.spec returns returns-2 returns-3)
+pub texts_spec : {M : Type 1} → statement M
+texts_spec = tie.close (tie.spec returns returns-2 returns-3)

@@ -5,15 +5,15 @@ use Rattle.types.specs.JudgedLaws.{unfit_none, unfit_by}
 use Rattle.types.proofs.misfits.unfit.Statement.{statement}
 use Rattle.types.proofs.misfits.unfit.Tie as tie
 
-returns : tie.Need-returns
+returns : tie.Need-returns-then-e-eq0
 returns c =
     let a = c.before.before.before.before.before.before.before.args in
-    unfit_none a.rows.now (table a.cells.now a.bytes.now) a.names.now a.types.now a.j c.before.end.ensures c.if1.true
+    unfit_none a.rows.now (table a.cells.now a.bytes.now) a.names.now a.types.now a.j c.before.end-e.ensures c.if-e-eq0.true
 
-returns-2 : tie.Need-returns-2
+returns-2 : tie.Need-returns
 returns-2 c =
     let a = c.before.before.before.before.before.before.before.before.before.args in
-    unfit_by a.rows.now (table a.cells.now a.bytes.now) a.names.now a.types.now a.j c.before.before.before.end.ensures c.before.before.if1.false c.before.role.ensures c.fits2.ensures
+    unfit_by a.rows.now (table a.cells.now a.bytes.now) a.names.now a.types.now a.j c.before.before.before.end-e.ensures c.before.before.if-e-eq0.false c.before.role-asked.ensures c.fits2.ensures
 
-pub unfit-spec : {M : Type 1} → statement M
-unfit-spec = tie.close (tie.spec (λ c κs. search rules) returns (λ c κs. search rules) (λ c κs. search rules) returns-2)
+pub unfit_spec : {M : Type 1} → statement M
+unfit_spec = tie.close (tie.spec (λ c κs. search rules) returns (λ c κs. search rules) (λ c κs. search rules) returns-2)
