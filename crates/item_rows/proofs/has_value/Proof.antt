@@ -9,5 +9,5 @@ use Rattle.item_rows.proofs.has_value.Tie as tie
 returns : tie.Need-returns
 returns c = ap (λ (x : ℕ). eqb x 1) c.cell.ensures
 
-pub has-value-spec : {M : Type 1} → statement M
-has-value-spec = tie.close (tie.spec (λ c. search rules) (λ c. search rules) (λ c κs. search rules) returns)
+pub has_value_spec : {M : Type 1} → statement M
+has_value_spec = tie.close (tie.spec (λ c. search rules) (λ c. search rules) (λ c κs. search rules) returns)

@@ -8,7 +8,7 @@ use Rattle.item_rows.proofs.value_of.Statement.{statement}
 use Rattle.item_rows.proofs.value_of.Tie as tie
 
 returns : tie.Need-returns
-returns c b = c.value.ensures b ∙ ap₂ (λ (tags nums : List ℕ). shown_at b tags nums c.before.before.before.before.args.d) c.before.before.part.ensures c.before.part2.ensures
+returns c b = c.value.ensures b ∙ ap₂ (λ (tags nums : List ℕ). shown_at b tags nums c.before.before.before.before.args.d) c.before.before.part-tags.ensures c.before.part-nums.ensures
 
-pub value-of-spec : {M : Type 1} → statement M
-value-of-spec = tie.close (tie.spec (λ c κs. search rules) (λ c κs. search rules) (λ c κs. search rules) returns)
+pub value_of_spec : {M : Type 1} → statement M
+value_of_spec = tie.close (tie.spec (λ c κs. search rules) (λ c κs. search rules) (λ c κs. search rules) returns)

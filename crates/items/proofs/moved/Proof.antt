@@ -13,29 +13,29 @@ use borrow.Author.Rules.{rules}
 use Rattle.items.proofs.moved.Statement.{statement}
 use Rattle.items.proofs.moved.Tie as tie
 
-cast-result : tie.Need-overflow-cast-result
+cast-result : tie.Need-overflow_cast-result
 cast-result c =
-    let w = c.before.before.before.before.wide_of.result.z in
-    let z = c.before.sum.result.z in
-    let h = fit w c.before.before.before.real-fits.ensures c.before.before.if1.true in
-    let e : z ≡ pos (moved w) = c.before.sum.ensures ∙ up w h in
+    let w = c.before.before.before.before.wide_of-w.result.z in
+    let z = c.before.sum-up.result.z in
+    let h = fit w c.before.before.before.real_fits.ensures c.before.before.if-real_fits.true in
+    let e : z ≡ pos (moved w) = c.before.sum-up.ensures ∙ up w h in
     let f : SFits w64 z = subst⁻¹ (SFits w64) e (record { sfits = omega (arith, up_small w h) }) in
     simp (to_z-of_z f) (subst⁻¹ (λ (y : ℤ). T (non_neg y) × Fits w32 (nat_abs y)) e (tt, record { fits = omega (arith, up_small w h) }))
 
-returns : tie.Need-returns
+returns : tie.Need-returns-then-real_fits
 returns c =
     λ k.
-    let w = c.before.before.before.before.wide_of.result.z in
-    let z = c.before.sum.result.z in
-    let h = fit w c.before.before.before.real-fits.ensures c.before.before.if1.true in
-    let e : z ≡ pos (moved w) = c.before.sum.ensures ∙ up w h in
+    let w = c.before.before.before.before.wide_of-w.result.z in
+    let z = c.before.sum-up.result.z in
+    let h = fit w c.before.before.before.real_fits.ensures c.before.before.if-real_fits.true in
+    let e : z ≡ pos (moved w) = c.before.sum-up.ensures ∙ up w h in
     let f : SFits w64 z = subst⁻¹ (SFits w64) e (record { sfits = omega (arith, up_small w h) }) in
-    simp (to_z-of_z f) (ap nat_abs e ∙ ap moved c.before.before.before.before.wide_of.ensures.0)
+    simp (to_z-of_z f) (ap nat_abs e ∙ ap moved c.before.before.before.before.wide_of-w.ensures.0)
 
-returns-2 : tie.Need-returns-2
-returns-2 c = no_fit c.before.before.before.args.n.z c.before.before.wide_of.result.z c.before.before.wide_of.ensures.0 c.before.real-fits.ensures c.if1.false
+returns-2 : tie.Need-returns
+returns-2 c = no_fit c.before.before.before.args.n.z c.before.before.wide_of-w.result.z c.before.before.wide_of-w.ensures.0 c.before.real_fits.ensures c.if-real_fits.false
 
-pub moved-spec : {M : Type 1} → statement M
-moved-spec =
+pub moved_spec : {M : Type 1} → statement M
+moved_spec =
     tie.close
     (tie.spec (λ c κs. search rules) (λ c κs. search rules) (λ c κs. search rules) cast-result returns returns-2)

@@ -5,17 +5,17 @@ use borrow.Author.Rules.{rules}
 use Rattle.load.proofs.is_short.Statement.{statement}
 use Rattle.load.proofs.is_short.Tie as tie
 
-returns : tie.Need-returns
-returns c = few_first (length c.before.args.plan.now) (length c.before.args.bytes.now) (length c.before.args.state.now) c.if1.true
+returns : tie.Need-returns-then-plan-lt-LEAST
+returns c = few_first (length c.before.args.plan.now) (length c.before.args.bytes.now) (length c.before.args.state.now) c.if-plan-lt-LEAST.true
 
-returns-2 : tie.Need-returns-2
-returns-2 c = few_second (length c.before.before.args.plan.now) (length c.before.before.args.bytes.now) (length c.before.before.args.state.now) c.if2.true
+returns-2 : tie.Need-returns-then-bytes-lt-LEAST
+returns-2 c = few_second (length c.before.before.args.plan.now) (length c.before.before.args.bytes.now) (length c.before.before.args.state.now) c.if-bytes-lt-LEAST.true
 
-returns-3 : tie.Need-returns-3
-returns-3 c = few_third (length c.before.before.args.plan.now) (length c.before.before.args.bytes.now) (length c.before.before.args.state.now) c.before.if1.false c.if2.false
+returns-3 : tie.Need-returns
+returns-3 c = few_third (length c.before.before.args.plan.now) (length c.before.before.args.bytes.now) (length c.before.before.args.state.now) c.before.if-plan-lt-LEAST.false c.if-bytes-lt-LEAST.false
 
-pub is-short-spec : {M : Type 1} → statement M
-is-short-spec =
+pub is_short_spec : {M : Type 1} → statement M
+is_short_spec =
     tie.close
     (tie.spec
     returns

@@ -7,8 +7,8 @@ use Rattle.load.proofs.prepare.Tie as tie
 returns : tie.Need-returns
 returns c = prepared c.before.before.before.before.before.before.before.before.fill.ensures c.before.before.before.number.ensures c.before.before.«open».ensures
 
-pub prepare-spec : {M : Type 1} → statement M
-prepare-spec =
+pub prepare_spec : {M : Type 1} → statement M
+prepare_spec =
     tie.close
     (tie.spec
     (λ c κs. search rules)

@@ -5,14 +5,14 @@ use borrow.Author.Rules.{rules}
 use Rattle.load.proofs.refusal.Statement.{statement}
 use Rattle.load.proofs.refusal.Tie as tie
 
-returns : tie.Need-returns
-returns c = not_taken c.before.before.before.before.before.judge.ensures refl c.enum_told.given.1
+returns : tie.Need-returns-in-Loads
+returns c = not_taken c.before.before.before.before.before.judge.ensures refl c.enum_told-1.given.1
 
-returns-2 : tie.Need-returns-2
-returns-2 c = refused_short c.before.before.before.before.before.before.judge.ensures refl c.before.number.given.1
+returns-2 : tie.Need-returns-in-Refused
+returns-2 c = refused_short c.before.before.before.before.before.before.judge.ensures refl c.before.number-1.given.1
 
-pub refusal-spec : {M : Type 1} → statement M
-refusal-spec =
+pub refusal_spec : {M : Type 1} → statement M
+refusal_spec =
     tie.close
     (tie.spec
     (λ c. search rules)

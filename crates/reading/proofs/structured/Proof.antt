@@ -4,14 +4,14 @@ use borrow.Author.Rules.{rules}
 use Rattle.reading.proofs.structured.Statement.{statement}
 use Rattle.reading.proofs.structured.Tie as tie
 
-returns : tie.Need-returns
-returns c = accepting c.before.before.before.before.before.before.before.before.before.judge.ensures c.before.n.given.1
+returns : tie.Need-returns-in-Fine
+returns c = accepting c.before.before.before.before.before.before.before.before.before.judge.ensures c.before.n-1.given.1
 
-returns-2 : tie.Need-returns-2
-returns-2 c = refusing c.before.before.before.before.before.before.before.before.before.judge.ensures c.before.n2.given.1
+returns-2 : tie.Need-returns-in-Refused
+returns-2 c = refusing c.before.before.before.before.before.before.before.before.before.judge.ensures c.before.n-in-Refused-1.given.1
 
-pub structured-spec : {M : Type 1} → statement M
-structured-spec =
+pub structured_spec : {M : Type 1} → statement M
+structured_spec =
     tie.close
     (tie.spec
     (λ c κs. search rules) (λ c. search rules) (λ c. search rules) (λ c. search rules) (λ c. search rules) (λ c. search rules)

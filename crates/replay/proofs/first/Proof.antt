@@ -5,7 +5,7 @@ use borrow.Author.Rules.{rules}
 use Rattle.replay.proofs.first.Statement.{statement}
 use Rattle.replay.proofs.first.Tie as tie
 
-slice-aggregate-replay : tie.Need-slice-aggregate-replay
+slice-aggregate-replay : tie.Need-slice_bounds-replay-end
 slice-aggregate-replay c = simp length-take (omega arith)
 
 pub first_spec : {M : Type 1} → statement M

@@ -9,5 +9,5 @@ use Rattle.replying.proofs.loaded.Tie as tie
 returns : tie.Need-returns
 returns c = ap (λ (z : ℕ). eqb z 1) c.cell.ensures
 
-pub loaded-spec : {M : Type 1} → statement M
-loaded-spec = tie.close (tie.spec (λ c κs. search rules) returns)
+pub loaded_spec : {M : Type 1} → statement M
+loaded_spec = tie.close (tie.spec (λ c κs. search rules) returns)

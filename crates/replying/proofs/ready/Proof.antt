@@ -4,11 +4,11 @@ use borrow.Author.Rules.{rules}
 use Rattle.replying.proofs.ready.Statement.{statement}
 use Rattle.replying.proofs.ready.Tie as tie
 
-returns : tie.Need-returns
-returns c = ready_told c.before.before.before.before.args.s.now c.before.before.loaded.ensures c.before.if1.true c.cell.ensures
+returns : tie.Need-returns-then-loaded
+returns c = ready_told c.before.before.before.before.args.s.now c.before.before.loaded.ensures c.before.if-loaded.true c.cell.ensures
 
-returns-2 : tie.Need-returns-2
-returns-2 c = ready_missed c.before.before.before.args.s.now c.before.loaded.ensures c.if1.false
+returns-2 : tie.Need-returns
+returns-2 c = ready_missed c.before.before.before.args.s.now c.before.loaded.ensures c.if-loaded.false
 
-pub ready-spec : {M : Type 1} → statement M
-ready-spec = tie.close (tie.spec (λ c κs. search rules) (λ c κs. search rules) returns returns-2)
+pub ready_spec : {M : Type 1} → statement M
+ready_spec = tie.close (tie.spec (λ c κs. search rules) (λ c κs. search rules) returns returns-2)

@@ -8,5 +8,5 @@ use Rattle.row_numbers.proofs.class_number.Tie as tie
 returns : tie.Need-returns
 returns c = c.one_of.ensures ∙ class_is c.before.args.n
 
-pub class-number-spec : {M : Type 1} → statement M
-class-number-spec = tie.close (tie.spec (λ c κs. search rules) returns)
+pub class_number_spec : {M : Type 1} → statement M
+class_number_spec = tie.close (tie.spec (λ c κs. search rules) returns)

@@ -8,5 +8,5 @@ use Rattle.row_numbers.proofs.kind_number.Tie as tie
 returns : tie.Need-returns
 returns c = c.one_of.ensures ∙ kind_is c.before.args.n
 
-pub kind-number-spec : {M : Type 1} → statement M
-kind-number-spec = tie.close (tie.spec (λ c κs. search rules) returns)
+pub kind_number_spec : {M : Type 1} → statement M
+kind_number_spec = tie.close (tie.spec (λ c κs. search rules) returns)

@@ -8,5 +8,5 @@ use Rattle.row_numbers.proofs.state_number.Tie as tie
 returns : tie.Need-returns
 returns c = c.one_of.ensures ∙ state_is c.before.args.n
 
-pub state-number-spec : {M : Type 1} → statement M
-state-number-spec = tie.close (tie.spec (λ c κs. search rules) returns)
+pub state_number_spec : {M : Type 1} → statement M
+state_number_spec = tie.close (tie.spec (λ c κs. search rules) returns)

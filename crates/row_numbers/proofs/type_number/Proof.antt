@@ -8,5 +8,5 @@ use Rattle.row_numbers.proofs.type_number.Tie as tie
 returns : tie.Need-returns
 returns c = c.one_of.ensures ∙ type_is c.before.args.n
 
-pub type-number-spec : {M : Type 1} → statement M
-type-number-spec = tie.close (tie.spec (λ c κs. search rules) returns)
+pub type_number_spec : {M : Type 1} → statement M
+type_number_spec = tie.close (tie.spec (λ c κs. search rules) returns)

@@ -4,15 +4,15 @@ use borrow.Author.Rules.{rules}
 use Rattle.row_numbers.proofs.write.Statement.{statement}
 use Rattle.row_numbers.proofs.write.Tie as tie
 
-returns : tie.Need-returns
+returns : tie.Need-returns-then-is_value
 returns c =
     let a = c.before.before.before.before.before.before.before.before.before.before.before.before.before.args in
-    written_value a.b.now a.r c.before.before.before.before.before.before.before.before.before.is-value.ensures c.before.before.before.before.before.before.before.before.if1.true c.before.before.before.before.encode.ensures
+    written_value a.b.now a.r c.before.before.before.before.before.before.before.before.before.is_value.ensures c.before.before.before.before.before.before.before.before.if-is_value.true c.before.before.before.before.encode.ensures
 
-returns-2 : tie.Need-returns-2
+returns-2 : tie.Need-returns
 returns-2 c =
     let a = c.before.before.before.before.before.before.before.before.before.before.before.before.before.args in
-    written_none a.b.now a.r a.cells.now a.out.now c.before.before.before.before.before.before.before.before.before.is-value.ensures c.before.before.before.before.before.before.before.before.if1.false c.before.before.before.before.before.before.clear.ensures c.before.before.clear-bytes.ensures
+    written_none a.b.now a.r a.cells-1.now a.out-1.now c.before.before.before.before.before.before.before.before.before.is_value.ensures c.before.before.before.before.before.before.before.before.if-is_value.false c.before.before.before.before.before.before.clear.ensures c.before.before.clear_bytes.ensures
 
 pub write_spec : {M : Type 1} → statement M
 write_spec =

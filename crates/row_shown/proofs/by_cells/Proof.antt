@@ -5,28 +5,28 @@ use borrow.Author.Rules.{rules}
 use Rattle.row_shown.proofs.by_cells.Statement.{statement}
 use Rattle.row_shown.proofs.by_cells.Tie as tie
 
-returns : tie.Need-returns
-returns c = cells_unknown c.before.before.args.k c.before.before.args.x c.scalar.result c.before.match.keys1 refl c.scalar.ensures
+returns : tie.Need-returns-in-1
+returns c = cells_unknown c.before.before.args.k c.before.before.args.x c.scalar.result c.before.in-1.keys1 refl c.scalar.ensures
 
-returns-2 : tie.Need-returns-2
-returns-2 c = cells_truth c.before.before.args.k c.before.before.args.x c.scalar2.result c.before.match.keys2 refl c.scalar2.ensures
+returns-2 : tie.Need-returns-in-2
+returns-2 c = cells_truth c.before.before.args.k c.before.before.args.x c.scalar-in-2.result c.before.in-2.keys2 refl c.scalar-in-2.ensures
 
-returns-3 : tie.Need-returns-3
-returns-3 c = cells_count c.before.before.args.k c.before.before.args.x c.count.result c.before.match.keys3 c.count.ensures
+returns-3 : tie.Need-returns-in-3
+returns-3 c = cells_count c.before.before.args.k c.before.before.args.x c.count.result c.before.in-3.keys3 c.count.ensures
 
-returns-4 : tie.Need-returns-4
-returns-4 c = cells_time c.before.before.args.k c.before.before.args.x c.plain.result c.before.match.keys4 c.plain.ensures
+returns-4 : tie.Need-returns-in-4
+returns-4 c = cells_time c.before.before.args.k c.before.before.args.x c.plain.result c.before.in-4.keys4 c.plain.ensures
 
-returns-5 : tie.Need-returns-5
-returns-5 c = cells_state c.before.before.args.k c.before.before.args.x c.plain2.result c.before.match.keys5 c.plain2.ensures
+returns-5 : tie.Need-returns-in-5
+returns-5 c = cells_state c.before.before.args.k c.before.before.args.x c.plain-in-5.result c.before.in-5.keys5 c.plain-in-5.ensures
 
-returns-6 : tie.Need-returns-6
+returns-6 : tie.Need-returns-in_default
 returns-6 c =
-    let n = c.before.match.rest in
-    cells_none c.before.before.args.k c.before.before.args.x c.plain3.result n.0.0.0.0.1 n.0.0.0.1 n.0.0.1 n.0.1 n.1 c.plain3.ensures
+    let n = c.before.in_default.rest in
+    cells_none c.before.before.args.k c.before.before.args.x c.plain-in_default.result n.0.0.0.0.1 n.0.0.0.1 n.0.0.1 n.0.1 n.1 c.plain-in_default.ensures
 
-pub by-cells-spec : {M : Type 1} → statement M
-by-cells-spec =
+pub by_cells_spec : {M : Type 1} → statement M
+by_cells_spec =
     tie.close
     (tie.spec
     (λ c κs. search rules) (λ c κs. search rules) (λ c κs. search rules) (λ c κs. search rules) (λ c κs. search rules) (λ c κs. search rules)

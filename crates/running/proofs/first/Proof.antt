@@ -7,7 +7,7 @@ use Rattle.running.proofs.first.Tie as tie
 returns : tie.Need-returns
 returns c =
     let a = c.before.before.before.before.before.before.args in
-    let ask = c.before.ask in
+    let ask = c.before.ask-a in
     turned_first a.bound a.lent a.x.now a.b.now a.f.now a.w a.s.now ask.result ask.ensures.1 ask.ensures.0 c.decide.ensures
 
 pub first_spec : {M : Type 1} → statement M

@@ -7,23 +7,23 @@ use borrow.Author.Rules.{rules}
 use Rattle.running.proofs.next.Statement.{statement}
 use Rattle.running.proofs.next.Tie as tie
 
-returns : tie.Need-returns
+returns : tie.Need-returns-then-cell-ne0
 returns c =
     let a = c.before.before.before.before.before.before.before.before.before.before.before.before.before.before.before.before.before.before.args in
     let enact = c.before.before.before.before.before.before.before.before.before.enact in
-    (next_exception a.bound a.turn.lent a.x.now a.f.now a.w a.b.now a.s.now a.asked.cells a.asked.n a.turn.cycles enact.new.1.0 enact.new.1.1.1.0 enact.ensures.0 enact.ensures.1 c.before.before.cell.ensures a.asked c.before.if1.true c.ended.ensures, ap (λ (u : Turn). u.cycles) c.ended.ensures)
+    (next_exception a.bound a.turn.lent a.x.now a.f.now a.w a.b-1.now a.s-1.now a.asked.cells-1 a.asked.n a.turn.cycles enact.new.1.0 enact.new.1.1.1.0 enact.ensures.0 enact.ensures.1 c.before.before.cell.ensures a.asked c.before.if-cell-ne0.true c.ended.ensures, ap (λ (u : Turn). u.cycles) c.ended.ensures)
 
-returns-2 : tie.Need-returns-2
+returns-2 : tie.Need-returns
 returns-2 c =
     let a = c.before.before.before.before.before.before.before.before.before.before.before.before.before.before.before.before.before.before.before.before.before.args in
     let enact = c.before.before.before.before.before.before.before.before.before.before.before.before.enact in
-    let ask = c.before.ask in (
-      next_decided a.bound a.turn.lent a.x.now a.f.now a.w a.b.now a.s.now a.asked.cells a.asked.n a.turn.cycles enact.new.1.0 enact.new.1.1.1.0 enact.ensures.0 enact.ensures.1 c.before.before.before.before.before.cell.ensures ask.result c.before.before.before.before.if1.false ask.ensures.1 ask.ensures.0 c.decide.ensures,
+    let ask = c.before.ask-a in (
+      next_decided a.bound a.turn.lent a.x.now a.f.now a.w a.b-1.now a.s-1.now a.asked.cells-1 a.asked.n a.turn.cycles enact.new.1.0 enact.new.1.1.1.0 enact.ensures.0 enact.ensures.1 c.before.before.before.before.before.cell.ensures ask.result c.before.before.before.before.if-cell-ne0.false ask.ensures.1 ask.ensures.0 c.decide.ensures,
       decided_cycles c.decide.ensures,
     )
 
-pub next-spec : {M : Type 1} → statement M
-next-spec =
+pub next_spec : {M : Type 1} → statement M
+next_spec =
     tie.close
     (tie.spec
     (λ c. search rules) (λ c κs. search rules) (λ c. search rules) (λ c κs. search rules) (λ c κs. search rules) (λ c. search rules) (λ c. search rules)

@@ -6,28 +6,28 @@ use borrow.Author.Rules.{rules}
 use Rattle.runs.proofs.begin.Statement.{statement}
 use Rattle.runs.proofs.begin.Tie as tie
 
-returns : tie.Need-returns
+returns : tie.Need-returns-then-lent-ge-ROWS
 returns c =
     let a = c.before.before.before.before.before.before.before.before.before.args in
-    claims_turned a.bound a.parts.now a.texts.now a.plan.now a.waits a.state.now a.lent a.texts.now a.state.now c.first.result c.before.before.if2.true (sym c.before.before.before.before.ready.ensures ∙ c.before.before.before.if1.true) c.before.if3.true c.first.ensures
+    claims_turned a.bound a.parts.now a.texts.now a.plan.now a.waits a.state.now a.lent a.texts.now a.state.now c.first.result c.before.before.if-bound.true (sym c.before.before.before.before.ready.ensures ∙ c.before.before.before.if-ready.true) c.before.if-lent-ge-ROWS.true c.first.ensures
 
-returns-2 : tie.Need-returns-2
+returns-2 : tie.Need-returns-then-bound
 returns-2 c =
     let a = c.before.before.before.before.before.before.before.before.before.args in
-    claims_short a.bound a.parts.now a.texts.now a.plan.now a.waits a.state.now a.lent c.refused.result c.before.before.before.before.ready.ensures c.refused.ensures c.before.before.before.if1.true (omega arith)
+    claims_short a.bound a.parts.now a.texts.now a.plan.now a.waits a.state.now a.lent c.refused.result c.before.before.before.before.ready.ensures c.refused.ensures c.before.before.before.if-ready.true (omega arith)
 
-returns-3 : tie.Need-returns-3
+returns-3 : tie.Need-returns-then-ready
 returns-3 c =
     let a = c.before.before.before.before.before.before.before.before.args in
-    claims_beyond a.bound a.parts.now a.texts.now a.plan.now a.waits a.state.now a.lent c.refused2.result c.before.before.before.ready.ensures c.refused2.ensures c.before.before.if1.true (omega arith)
+    claims_beyond a.bound a.parts.now a.texts.now a.plan.now a.waits a.state.now a.lent c.refused-then-ready.result c.before.before.before.ready.ensures c.refused-then-ready.ensures c.before.before.if-ready.true (omega arith)
 
-returns-4 : tie.Need-returns-4
+returns-4 : tie.Need-returns
 returns-4 c =
     let a = c.before.before.before.before.before.before.before.args in
-    claims_unready a.bound a.parts.now a.texts.now a.plan.now a.waits a.state.now a.lent c.refused3.result c.before.before.ready.ensures c.refused3.ensures c.before.if1.false
+    claims_unready a.bound a.parts.now a.texts.now a.plan.now a.waits a.state.now a.lent c.refused-2.result c.before.before.ready.ensures c.refused-2.ensures c.before.if-ready.false
 
-pub begin-spec : {M : Type 1} → statement M
-begin-spec =
+pub begin_spec : {M : Type 1} → statement M
+begin_spec =
     tie.close
     (tie.spec
     (λ c κs. search rules) (λ c. search rules) (λ c κs. search rules)

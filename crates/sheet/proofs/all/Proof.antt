@@ -7,15 +7,15 @@ use Rattle.sheet.specs.Steps.{line_limit}
 use Rattle.sheet.proofs.all.Statement.{statement}
 use Rattle.sheet.proofs.all.Tie as tie
 
-abbrev invariant-loop : tie.invariant-loop
+abbrev invariant-loop : tie.invariant-loop-t
 invariant-loop chunk₀ kept₀ out₀ t₀ chunk kept out t =
     (length chunk ≡ length chunk₀) × (length kept ≡ length kept₀) × (length out ≡ length out₀) × (line_limit ≤ length out)
 
-abbrev decreases-loop : tie.decreases-loop
+abbrev decreases-loop : tie.decreases-loop-t
 decreases-loop chunk₀ kept₀ out₀ t₀ chunk kept out t = t.left
 
-pub all-spec : {M : Type 1} → statement M
-all-spec =
+pub all_spec : {M : Type 1} → statement M
+all_spec =
     tie.close
     (tie.spec
     invariant-loop

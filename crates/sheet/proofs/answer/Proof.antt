@@ -8,17 +8,17 @@ use Rattle.sheet.specs.Steps.{line_limit}
 use Rattle.sheet.proofs.answer.Statement.{statement}
 use Rattle.sheet.proofs.answer.Tie as tie
 
-abbrev invariant-loop : tie.invariant-loop
+abbrev invariant-loop : tie.invariant-loop-s
 invariant-loop chunk kept₀ out₀ s₀ kept out s = (length kept ≡ length kept₀) × (length out ≡ length out₀) × (line_limit ≤ length out)
 
-abbrev decreases-loop : tie.decreases-loop
+abbrev decreases-loop : tie.decreases-loop-s
 decreases-loop chunk kept₀ out₀ s₀ kept out s = length chunk - s.at
 
-loop-less : tie.Need-loop-smaller invariant-loop decreases-loop
-loop-less c = let on = c.before.before.before.before.step.ensures (search rules) in omega arith
+loop-less : tie.Need-loop-s-smaller invariant-loop decreases-loop
+loop-less c = let on = c.before.before.before.before.step-s.ensures (search rules) in omega arith
 
-pub answer-spec : {M : Type 1} → statement M
-answer-spec =
+pub answer_spec : {M : Type 1} → statement M
+answer_spec =
     tie.close
     (tie.spec
     invariant-loop

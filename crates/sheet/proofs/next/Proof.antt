@@ -5,11 +5,11 @@ use borrow.Author.Rules.{rules}
 use Rattle.sheet.proofs.next.Statement.{statement}
 use Rattle.sheet.proofs.next.Tie as tie
 
-slice-aggregate-answer : tie.Need-slice-aggregate-answer
+slice-aggregate-answer : tie.Need-slice_bounds-answer-end-2
 slice-aggregate-answer c = simp length-take (omega arith)
 
-pub next-spec : {M : Type 1} → statement M
-next-spec =
+pub next_spec : {M : Type 1} → statement M
+next_spec =
     tie.close
     (tie.spec
     (λ c κs. search rules) (λ c. search rules) (λ c. search rules) (λ c. search rules)

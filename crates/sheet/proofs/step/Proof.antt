@@ -8,7 +8,7 @@ use Rattle.sheet.proofs.step.Tie as tie
 
 returns : tie.Need-returns
 returns c h =
-    let r = c.before.before.before.before.before.before.before.room in
+    let r = c.before.before.before.before.before.before.before.room-ready in
     let same = r.ensures.at in
     let l : r.result.at < length c.before.before.before.before.before.before.before.before.before.before.before.before.args.chunk.now = omega arith in
     let on = c.before.before.before.before.step.ensures.onward l in

@@ -5,7 +5,7 @@ use borrow.Author.Rules.{rules}
 use Rattle.sheet.proofs.write.Statement.{statement}
 use Rattle.sheet.proofs.write.Tie as tie
 
-slice-aggregate-write-all : tie.Need-slice-aggregate-write-all
+slice-aggregate-write-all : tie.Need-slice_bounds-write_all-end
 slice-aggregate-write-all c = simp length-take (omega arith)
 
 pub write_spec : {M : Type 1} → statement M

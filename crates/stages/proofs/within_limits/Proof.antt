@@ -6,20 +6,20 @@ use borrow.Author.Rules.{rules}
 use Rattle.stages.proofs.within_limits.Statement.{statement}
 use Rattle.stages.proofs.within_limits.Tie as tie
 
-returns : tie.Need-returns
+returns : tie.Need-returns-in-At
 returns c =
     let s = c.before.before.before.before.before.before.before.before.before.before.before.before.before.before.before.before.before.before.before.before.before.before.before.before.before.before.before.before.before.before.before.before.args in
-    past_limit c.before.before.before.before.before.before.before.before.before.before.before.before.before.before.before.before.before.before.before.before.before.before.before.before.short.ensures c.before.before.before.before.before.before.before.before.before.before.before.before.before.before.before.before.before.before.before.before.walk.ensures c.before.before.before.before.before.before.before.before.before.before.before.p.given.0.0 (subst (OverLimits s.text.now s.kinds.now s.places.now s.lengths.now c.before.before.before.before.before.before.before.before.before.before.before.before.before.before.before.before.before.before.before.before.walk.result c.before.before.before.before.before.before.before.before.before.before.before.before.before.before.before.before.before.before.before.before.before.before.before.before.short.result) c.before.before.before.before.before.before.before.before.before.before.before.p.given.1 c.before.before.before.before.before.before.before.before.before.before.before.before.before.over-limits.ensures)
-    c.before.before.before.before.before.before.before.before.before.before.before.before.before.before.before.before.before.before.before.rows.given c.before.before.before.before.before.before.before.before.before.before.before.before.before.before.before.before.before.cells.given c.before.before.before.before.before.before.before.before.before.before.before.before.before.before.before.bytes.given c.before.before.before.before.before.before.blank.ensures
+    past_limit c.before.before.before.before.before.before.before.before.before.before.before.before.before.before.before.before.before.before.before.before.before.before.before.before.short-short.ensures c.before.before.before.before.before.before.before.before.before.before.before.before.before.before.before.before.before.before.before.before.walk-w.ensures c.before.before.before.before.before.before.before.before.before.before.before.p-1.given.0.0 (subst (OverLimits s.text.now s.kinds.now s.places.now s.lengths.now c.before.before.before.before.before.before.before.before.before.before.before.before.before.before.before.before.before.before.before.before.walk-w.result c.before.before.before.before.before.before.before.before.before.before.before.before.before.before.before.before.before.before.before.before.before.before.before.before.short-short.result) c.before.before.before.before.before.before.before.before.before.before.before.p-1.given.1 c.before.before.before.before.before.before.before.before.before.before.before.before.before.over_limits.ensures)
+    c.before.before.before.before.before.before.before.before.before.before.before.before.before.before.before.before.before.before.before.rows-1.given c.before.before.before.before.before.before.before.before.before.before.before.before.before.before.before.before.before.cells-1.given c.before.before.before.before.before.before.before.before.before.before.before.before.before.before.before.bytes-1.given c.before.before.before.before.before.before.blank.ensures
 
-returns-2 : tie.Need-returns-2
+returns-2 : tie.Need-returns-in-Nowhere
 returns-2 c =
     let s = c.before.before.before.before.before.before.before.before.before.before.before.before.before.before.before.before.before.before.before.before.before.args in
-    all_within c.before.before.before.before.before.before.before.before.before.before.before.before.before.short.ensures c.before.before.before.before.before.before.before.before.before.walk.ensures (subst (OverLimits s.text.now s.kinds.now s.places.now s.lengths.now c.before.before.before.before.before.before.before.before.before.walk.result c.before.before.before.before.before.before.before.before.before.before.before.before.before.short.result) c.enum_told.given.1 c.before.before.over-limits.ensures)
-    c.before.before.before.before.before.before.before.before.rows.given c.before.before.before.before.before.before.cells.given c.before.before.before.before.bytes.given
+    all_within c.before.before.before.before.before.before.before.before.before.before.before.before.before.short-short.ensures c.before.before.before.before.before.before.before.before.before.walk-w.ensures (subst (OverLimits s.text.now s.kinds.now s.places.now s.lengths.now c.before.before.before.before.before.before.before.before.before.walk-w.result c.before.before.before.before.before.before.before.before.before.before.before.before.before.short-short.result) c.enum_told-1.given.1 c.before.before.over_limits.ensures)
+    c.before.before.before.before.before.before.before.before.rows-1.given c.before.before.before.before.before.before.cells-1.given c.before.before.before.before.bytes-1.given
 
-pub within-limits-spec : {M : Type 1} → statement M
-within-limits-spec =
+pub within_limits_spec : {M : Type 1} → statement M
+within_limits_spec =
     tie.close
     (tie.spec
     (λ c κs. search rules) (λ c κs. search rules) (λ c κs. search rules) (λ c. search rules) (λ c κs. search rules) (λ c. search rules)

@@ -10,22 +10,22 @@ use borrow.Author.Rules.{rules}
 use Rattle.task_rows.proofs.any.Statement.{statement}
 use Rattle.task_rows.proofs.any.Tie as tie
 
-abbrev invariant-loop : tie.invariant-loop
+abbrev invariant-loop : tie.invariant-loop-k
 invariant-loop row k₀ found₀ k found = (k ≤ 32) × (found ≡ any_f (marked row) k)
 
-abbrev decreases-loop : tie.decreases-loop
+abbrev decreases-loop : tie.decreases-loop-k
 decreases-loop row k₀ found₀ k found = 32 - k
 
-loop-holds : tie.Need-loop-init invariant-loop decreases-loop
+loop-holds : tie.Need-loop-k-init invariant-loop decreases-loop
 loop-holds c = (omega arith, any_none _)
 
-loop-again : tie.Need-loop-preserved invariant-loop decreases-loop
+loop-again : tie.Need-loop-k-preserved invariant-loop decreases-loop
 loop-again c =
     let row = c.before.before.before.args.t1 in
-    (omega arith, c.either.ensures ∙ ap (λ (y : Bool). y || marked row c.before.before.loop.k) c.before.before.loop.invariant.1 ∙ sym (any_more (marked row) c.before.before.loop.k))
+    (omega arith, c.either-found.ensures ∙ ap (λ (y : Bool). y || marked row c.before.before.loop-k.k) c.before.before.loop-k.invariant.1 ∙ sym (any_more (marked row) c.before.before.loop-k.k))
 
 returns : tie.Need-returns invariant-loop decreases-loop
-returns c = any_all (marked c.before.before.args.t1) c.before.loop.k (omega arith) c.before.loop.invariant.1
+returns c = any_all (marked c.before.before.args.t1) c.before.loop-k.k (omega arith) c.before.loop-k.invariant.1
 
 pub any_spec : {M : Type 1} → statement M
 any_spec =

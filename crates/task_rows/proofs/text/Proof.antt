@@ -6,11 +6,11 @@ use borrow.Author.Rules.{rules}
 use Rattle.task_rows.proofs.text.Statement.{statement}
 use Rattle.task_rows.proofs.text.Tie as tie
 
-returns : tie.Need-returns
-returns c = text_yes c.before.before.before.args.h c.scalar.result c.before.before.if1.true (ap Text c.before.handle-of.ensures) c.scalar.ensures
+returns : tie.Need-returns-then-yes
+returns c = text_yes c.before.before.before.args.h c.scalar.result c.before.before.if-yes.true (ap Text c.before.handle_of.ensures) c.scalar.ensures
 
-returns-2 : tie.Need-returns-2
-returns-2 c = text_no c.before.before.args.h c.plain.result c.before.if1.false c.plain.ensures
+returns-2 : tie.Need-returns
+returns-2 c = text_no c.before.before.args.h c.plain.result c.before.if-yes.false c.plain.ensures
 
-pub text-spec : {M : Type 1} → statement M
-text-spec = tie.close (tie.spec (λ c κs. search rules) (λ c κs. search rules) returns (λ c κs. search rules) returns-2)
+pub text_spec : {M : Type 1} → statement M
+text_spec = tie.close (tie.spec (λ c κs. search rules) (λ c κs. search rules) returns (λ c κs. search rules) returns-2)

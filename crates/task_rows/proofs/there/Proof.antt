@@ -4,11 +4,11 @@ use borrow.Author.Rules.{rules}
 use Rattle.task_rows.proofs.there.Statement.{statement}
 use Rattle.task_rows.proofs.there.Tie as tie
 
-returns : tie.Need-returns
-returns c = there_yes c.plain.result c.before.if1.true c.plain.ensures
+returns : tie.Need-returns-then-yes
+returns c = there_yes c.plain.result c.before.if-yes.true c.plain.ensures
 
-returns-2 : tie.Need-returns-2
-returns-2 c = there_no c.plain2.result c.before.if1.false c.plain2.ensures
+returns-2 : tie.Need-returns
+returns-2 c = there_no c.plain-2.result c.before.if-yes.false c.plain-2.ensures
 
-pub there-spec : {M : Type 1} → statement M
-there-spec = tie.close (tie.spec (λ c κs. search rules) returns (λ c κs. search rules) returns-2)
+pub there_spec : {M : Type 1} → statement M
+there_spec = tie.close (tie.spec (λ c κs. search rules) returns (λ c κs. search rules) returns-2)

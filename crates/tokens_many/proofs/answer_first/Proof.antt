@@ -5,8 +5,8 @@ use borrow.Author.Rules.{rules}
 use Rattle.tokens_many.proofs.answer_first.Statement.{statement}
 use Rattle.tokens_many.proofs.answer_first.Tie as tie
 
-slice-aggregate-answer : tie.Need-slice-aggregate-answer
+slice-aggregate-answer : tie.Need-slice_bounds-answer-end
 slice-aggregate-answer c = simp length-take (omega arith)
 
-pub answer-first-spec : {M : Type 1} → statement M
-answer-first-spec = tie.close (tie.spec (λ c. search rules) slice-aggregate-answer (λ c κs. search rules) (λ c. search rules))
+pub answer_first_spec : {M : Type 1} → statement M
+answer_first_spec = tie.close (tie.spec (λ c. search rules) slice-aggregate-answer (λ c κs. search rules) (λ c. search rules))

@@ -3,14 +3,14 @@ use borrow.Author.Rules.{rules}
 use Rattle.tokens_many.proofs.has_exponent.Statement.{statement}
 use Rattle.tokens_many.proofs.has_exponent.Tie as tie
 
-abbrev invariant-loop : tie.invariant-loop
+abbrev invariant-loop : tie.invariant-loop-left
 invariant-loop text from len left₀ left = Unit {0}
 
-abbrev decreases-loop : tie.decreases-loop
+abbrev decreases-loop : tie.decreases-loop-left
 decreases-loop text from len left₀ left = left
 
-pub has-exponent-spec : {M : Type 1} → statement M
-has-exponent-spec =
+pub has_exponent_spec : {M : Type 1} → statement M
+has_exponent_spec =
     tie.close
     (tie.spec
     invariant-loop

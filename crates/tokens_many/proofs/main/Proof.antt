@@ -4,10 +4,10 @@ use Prim.Native.Nat.{◌-◌}
 use Rattle.tokens_many.proofs.main.Statement.{statement}
 use Rattle.tokens_many.proofs.main.Tie as tie
 
-abbrev invariant-loop : tie.invariant-loop
+abbrev invariant-loop : tie.invariant-loop-turns
 invariant-loop turns₀ turns = Unit {0}
 
-abbrev decreases-loop : tie.decreases-loop
+abbrev decreases-loop : tie.decreases-loop-turns
 decreases-loop turns₀ turns = turns
 
 pub main_spec : {M : Type 1} → statement M

@@ -4,14 +4,14 @@ use Prim.Native.Nat.{◌-◌}
 use Rattle.tokens_many.proofs.write_tokens.Statement.{statement}
 use Rattle.tokens_many.proofs.write_tokens.Tie as tie
 
-abbrev invariant-loop : tie.invariant-loop
+abbrev invariant-loop : tie.invariant-loop-i
 invariant-loop text kinds places lengths count i₀ t10 i = Unit {0}
 
-abbrev decreases-loop : tie.decreases-loop
+abbrev decreases-loop : tie.decreases-loop-i
 decreases-loop text kinds places lengths count i₀ t10 i = count - i
 
-pub write-tokens-spec : {M : Type 1} → statement M
-write-tokens-spec =
+pub write_tokens_spec : {M : Type 1} → statement M
+write_tokens_spec =
     tie.close
     (tie.spec
     invariant-loop

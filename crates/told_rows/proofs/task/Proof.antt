@@ -4,11 +4,11 @@ use borrow.Author.Rules.{rules}
 use Rattle.told_rows.proofs.task.Statement.{statement}
 use Rattle.told_rows.proofs.task.Tie as tie
 
-abbrev invariant-loop : tie.invariant-loop
+abbrev invariant-loop : tie.invariant-loop-p
 invariant-loop rows texts plan waits state t p₀ p = Unit {0}
 
-abbrev decreases-loop : tie.decreases-loop
+abbrev decreases-loop : tie.decreases-loop-p
 decreases-loop rows texts plan waits state t p₀ p = 59 - p
 
-pub task-spec : {M : Type 1} → statement M
-task-spec = tie.close (tie.spec invariant-loop decreases-loop (λ c κs. search rules) (λ c. search rules) (λ c. search rules) (λ c κs. search rules) (λ c. search rules) (λ c. search rules) (λ c. search rules) (λ c. search rules))
+pub task_spec : {M : Type 1} → statement M
+task_spec = tie.close (tie.spec invariant-loop decreases-loop (λ c κs. search rules) (λ c. search rules) (λ c. search rules) (λ c κs. search rules) (λ c. search rules) (λ c. search rules) (λ c. search rules) (λ c. search rules))

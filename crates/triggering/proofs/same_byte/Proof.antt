@@ -7,5 +7,5 @@ use Rattle.triggering.proofs.same_byte.Tie as tie
 returns : tie.Need-returns
 returns c = search (rules, same_test)
 
-pub same-byte-spec : {M : Type 1} → statement M
-same-byte-spec = tie.close (tie.spec (λ c κs. search rules) (λ c κs. search rules) returns)
+pub same_byte_spec : {M : Type 1} → statement M
+same_byte_spec = tie.close (tie.spec (λ c κs. search rules) (λ c κs. search rules) returns)

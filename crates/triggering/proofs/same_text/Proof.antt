@@ -8,37 +8,37 @@ use borrow.Author.Rules.{rules}
 use Rattle.triggering.proofs.same_text.Statement.{statement}
 use Rattle.triggering.proofs.same_text.Tie as tie
 
-abbrev invariant-loop : tie.invariant-loop
+abbrev invariant-loop : tie.invariant-loop-k
 invariant-loop b h name p n k₀ k = (k ≤ n) × Agree b p name k
 
-abbrev decreases-loop : tie.decreases-loop
+abbrev decreases-loop : tie.decreases-loop-k
 decreases-loop b h name p n k₀ k = n - k
 
-returns : tie.Need-returns invariant-loop decreases-loop
+returns : tie.Need-returns-then-n-name invariant-loop decreases-loop
 returns c =
     let a = c.before.before.before.args in
-    other_size a.b.now a.h a.name.now c.if1.true
+    other_size a.b.now a.h a.name.now c.if-n-name.true-raw
 
-loop-holds : tie.Need-loop-init invariant-loop decreases-loop
+loop-holds : tie.Need-loop-k-init invariant-loop decreases-loop
 loop-holds c = (omega arith, λ j l. absurd (not-suc-le-zero l))
 
-returns-2 : tie.Need-returns-2 invariant-loop decreases-loop
+returns-2 : tie.Need-returns-then-not-same_byte invariant-loop decreases-loop
 returns-2 c =
     let a = c.before.before.before.before.before.before.before.args in
-    other_byte a.b.now a.h a.name.now c.before.before.before.loop.k (omega arith) c.before.same_byte.ensures (not-true _ c.if2.true)
+    other_byte a.b.now a.h a.name.now c.before.before.before.loop-k.k (omega arith) c.before.same_byte.ensures (not-true _ c.if-not-same_byte.true-raw)
 
-loop-again : tie.Need-loop-preserved invariant-loop decreases-loop
+loop-again : tie.Need-loop-k-preserved invariant-loop decreases-loop
 loop-again c =
     let a = c.before.before.before.before.before.before.before.args in
-    (omega arith, agree_more a.b.now (a.h / 64) a.name.now c.before.before.before.loop.k c.before.same_byte.ensures (not-false _ c.if2.false) c.before.before.before.loop.invariant.1)
+    (omega arith, agree_more a.b.now (a.h / 64) a.name.now c.before.before.before.loop-k.k c.before.same_byte.ensures (not-false _ c.if-not-same_byte.false-raw) c.before.before.before.loop-k.invariant.1)
 
-returns-3 : tie.Need-returns-3 invariant-loop decreases-loop
+returns-3 : tie.Need-returns invariant-loop decreases-loop
 returns-3 c =
     let a = c.before.before.before.before.before.args in
-    agreed a.b.now a.h a.name.now c.before.loop.k c.before.before.if1.false (omega arith) c.before.loop.invariant.1
+    agreed a.b.now a.h a.name.now c.before.loop-k.k c.before.before.if-n-name.false-raw (omega arith) c.before.loop-k.invariant.1
 
-pub same-text-spec : {M : Type 1} → statement M
-same-text-spec =
+pub same_text_spec : {M : Type 1} → statement M
+same_text_spec =
     tie.close
     (tie.spec
     invariant-loop

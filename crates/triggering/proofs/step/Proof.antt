@@ -4,15 +4,15 @@ use borrow.Author.Rules.{rules}
 use Rattle.triggering.proofs.step.Statement.{statement}
 use Rattle.triggering.proofs.step.Tie as tie
 
-returns : tie.Need-returns
+returns : tie.Need-returns-then-hit
 returns c =
     let a = c.before.before.before.before.before.before.before.before.before.before.before.args in
-    step_hit a.f.now a.b.now a.s.now a.name.now a.t c.before.before.before.before.before.hit.ensures c.before.before.before.before.if1.true c.before.before.make-true.ensures
+    step_hit a.f.now a.b.now a.s-1.now a.name.now a.t c.before.before.before.before.before.hit.ensures c.before.before.before.before.if-hit.true c.before.before.make_true.ensures
 
-returns-2 : tie.Need-returns-2
+returns-2 : tie.Need-returns-else-hit
 returns-2 c =
     let a = c.before.before.before.before.before.before.before.args in
-    step_miss a.f.now a.b.now a.s.now a.name.now a.t c.before.hit.ensures c.if1.false
+    step_miss a.f.now a.b.now a.s-1.now a.name.now a.t c.before.hit.ensures c.if-hit.false
 
 pub step_spec : {M : Type 1} → statement M
 step_spec = tie.close (tie.spec (λ c κs. search rules) (λ c κs. search rules) (λ c. search rules) returns (λ c. search rules) returns-2)

@@ -8,42 +8,42 @@ use borrow.Author.Rules.{rules}
 use Rattle.triggering.proofs.trigger.Statement.{statement}
 use Rattle.triggering.proofs.trigger.Tie as tie
 
-abbrev invariant-loop : tie.invariant-loop
+abbrev invariant-loop : tie.invariant-loop-t
 invariant-loop b f s₀ name t₀ s t = (t ≤ 32) × Sent f b name s₀ t s
 
-abbrev decreases-loop : tie.decreases-loop
+abbrev decreases-loop : tie.decreases-loop-t
 decreases-loop b f s₀ name t₀ s t = 32 - t
 
-loop-holds : tie.Need-loop-init invariant-loop decreases-loop
+loop-holds : tie.Need-loop-t-init invariant-loop decreases-loop
 loop-holds c =
     let a = c.before.before.before.before.before.before.before.before.before.args in
-    (omega arith, sent_none a.plan.now a.texts.now a.name.now a.state.now)
+    (omega arith, sent_none a.plan.now a.texts.now a.name.now a.state-1.now)
 
-loop-again : tie.Need-loop-preserved invariant-loop decreases-loop
+loop-again : tie.Need-loop-t-preserved invariant-loop decreases-loop
 loop-again c =
     let a = c.before.before.before.before.before.before.before.before.before.before.before.before.before.before.before.args in
-    (omega arith, sent_more a.plan.now a.texts.now a.name.now a.state.now c.before.before.before.before.before.loop.t c.before.before.before.before.before.loop.state c.before.before.step.new.1.1.0 (omega arith) c.before.before.step.ensures c.before.before.before.before.before.loop.invariant.1)
+    (omega arith, sent_more a.plan.now a.texts.now a.name.now a.state-1.now c.before.before.before.before.before.loop-t.t c.before.before.before.before.before.loop-t.state-1 c.before.before.step.new.1.1.0 (omega arith) c.before.before.step.ensures c.before.before.before.before.before.loop-t.invariant.1)
 
-same_length : tie.Need-same-length invariant-loop decreases-loop
-same_length c = c.before.loop.invariant.1.size
+same_length : tie.Need-shape_of-state-then-small_text invariant-loop decreases-loop
+same_length c = c.before.loop-t.invariant.1.size
 
-returns : tie.Need-returns invariant-loop decreases-loop
+returns : tie.Need-returns-then-small_text invariant-loop decreases-loop
 returns c =
     let a = c.before.before.before.before.before.before.before.before.before.before.before.args in
-    trigger_sent a.name.now a.texts.now a.plan.now a.state.now c.before.before.before.before.before.ready.ensures c.before.before.before.before.if1.true c.before.before.before.small_text.ensures c.before.before.if2.true (sent_all a.plan.now a.texts.now a.name.now a.state.now c.before.loop.t (omega arith) c.before.loop.invariant.1)
+    trigger_sent a.name.now a.texts.now a.plan.now a.state-1.now c.before.before.before.before.before.ready.ensures c.before.before.before.before.if-ready.true c.before.before.before.small_text.ensures c.before.before.if-small_text.true (sent_all a.plan.now a.texts.now a.name.now a.state-1.now c.before.loop-t.t (omega arith) c.before.loop-t.invariant.1)
 
-returns-2 : tie.Need-returns-2 invariant-loop decreases-loop
+returns-2 : tie.Need-returns-then-ready invariant-loop decreases-loop
 returns-2 c =
     let a = c.before.before.before.before.before.before.before.before.before.args in
-    trigger_large a.name.now a.texts.now a.plan.now a.state.now c.before.before.before.ready.ensures c.before.before.if1.true c.before.small_text.ensures c.if2.false
+    trigger_large a.name.now a.texts.now a.plan.now a.state-1.now c.before.before.before.ready.ensures c.before.before.if-ready.true c.before.small_text.ensures c.if-small_text.false
 
-returns-3 : tie.Need-returns-3 invariant-loop decreases-loop
+returns-3 : tie.Need-returns invariant-loop decreases-loop
 returns-3 c =
     let a = c.before.before.before.before.before.before.before.args in
-    trigger_unready a.name.now a.texts.now a.plan.now a.state.now c.before.ready.ensures c.if1.false
+    trigger_unready a.name.now a.texts.now a.plan.now a.state-1.now c.before.ready.ensures c.if-ready.false
 
-pub trigger-spec : {M : Type 1} → statement M
-trigger-spec =
+pub trigger_spec : {M : Type 1} → statement M
+trigger_spec =
     tie.close
     (tie.spec
     invariant-loop

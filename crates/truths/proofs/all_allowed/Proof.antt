@@ -6,5 +6,5 @@ use Rattle.truths.proofs.all_allowed.Tie as tie
 returns : tie.Need-returns
 returns c = c.all_held.ensures
 
-pub all-allowed-spec : {M : Type 1} → statement M
-all-allowed-spec = tie.close (tie.spec (λ c κs. search rules) returns)
+pub all_allowed_spec : {M : Type 1} → statement M
+all_allowed_spec = tie.close (tie.spec (λ c κs. search rules) returns)

@@ -6,5 +6,5 @@ use Rattle.truths.proofs.all_ended.Tie as tie
 returns : tie.Need-returns
 returns c = c.all_held.ensures
 
-pub all-ended-spec : {M : Type 1} → statement M
-all-ended-spec = tie.close (tie.spec (λ c κs. search rules) returns)
+pub all_ended_spec : {M : Type 1} → statement M
+all_ended_spec = tie.close (tie.spec (λ c κs. search rules) returns)

@@ -6,15 +6,15 @@ use borrow.Author.Rules.{rules}
 use Rattle.truths.proofs.held.Statement.{statement}
 use Rattle.truths.proofs.held.Tie as tie
 
-returns : tie.Need-returns
+returns : tie.Need-returns-then-end-eq0
 returns c =
     let a = c.before.before.before.before.before.args in
-    held_none a.none (table a.x.now a.b.now) (shown_by a.f.now a.s.now) a.task a.end c.if1.true
+    held_none a.none (table a.x.now a.b.now) (shown_by a.f.now a.s.now) a.task a.end c.if-end-eq0.true
 
-returns-2 : tie.Need-returns-2
+returns-2 : tie.Need-returns
 returns-2 c =
     let a = c.before.before.before.before.before.before.args in
-    held_there a.none (table a.x.now a.b.now) (shown_by a.f.now a.s.now) a.task a.end c.before.if1.false c.truth_of.ensures
+    held_there a.none (table a.x.now a.b.now) (shown_by a.f.now a.s.now) a.task a.end c.before.if-end-eq0.false c.truth_of.ensures
 
 pub held_spec : {M : Type 1} → statement M
 held_spec = tie.close (tie.spec returns (λ c κs. search rules) returns-2)

@@ -12,10 +12,10 @@ use Rattle.truths.proofs.value_at.Tie as tie
 returns : tie.Need-returns
 returns c =
     let a = c.before.before.before.before.before.before.before.before.before.before.before.before.args in
-    subst (λ (k : Columns). Published (table a.x.now a.b.now) k a.task a.end depth_limit c.value_of.result) (lent a.f.now a.s.now c.before.before.before.before.before.before.before.number.ensures c.before.before.before.before.before.before.part.ensures c.before.before.before.before.before.part2.ensures c.before.before.before.before.part3.ensures c.before.before.before.number2.ensures c.before.before.part4.ensures c.before.part5.ensures) c.value_of.ensures
+    subst (λ (k : Columns). Published (table a.x.now a.b.now) k a.task a.end depth_limit c.value_of.result) (lent a.f.now a.s.now c.before.before.before.before.before.before.before.number.ensures c.before.before.before.before.before.before.part-names.ensures c.before.before.before.before.before.part-tags.ensures c.before.before.before.before.part-nums.ensures c.before.before.before.number-2.ensures c.before.before.part-tasks.ensures c.before.part-states.ensures) c.value_of.ensures
 
-pub value-at-spec : {M : Type 1} → statement M
-value-at-spec =
+pub value_at_spec : {M : Type 1} → statement M
+value_at_spec =
     tie.close
     (tie.spec
     (λ c κs. search rules) (λ c κs. search rules) (λ c κs. search rules) (λ c κs. search rules) (λ c κs. search rules)

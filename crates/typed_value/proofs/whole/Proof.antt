@@ -9,11 +9,11 @@ returns : tie.Need-returns
 returns c =
     let a = c.before.before.before.before.before.before.before.before.before.before.before.before.before.before.args in
     let q = c.before.before.before.before.before.before.before.before.before.before.skip.result in
-    let v = c.before.before.before.before.before.before.value.ensures in
-    let on = on_onward a.s.now a.from q c.before.before.before.before.before.before.value.result.place c.before.before.before.before.before.before.before.before.before.before.skip.ensures.0 v.0 in (
-      placed_on a.s.now a.from c.before.before.before.before.before.before.value.result.place c.ended.result on c.ended.ensures.0,
+    let v = c.before.before.before.before.before.before.value-t.ensures in
+    let on = on_onward a.s.now a.from q c.before.before.before.before.before.before.value-t.result.place c.before.before.before.before.before.before.before.before.before.before.skip.ensures.0 v.0 in (
+      placed_on a.s.now a.from c.before.before.before.before.before.before.value-t.result.place c.ended.result on c.ended.ensures.0,
       rw (← c.before.before.before.before.before.before.before.before.before.before.skip.ensures.1) (whole_value a.s.now (told_value a.s.now q) v.1 c.ended.ensures.1),
     )
 
-pub whole-spec : {M : Type 1} → statement M
-whole-spec = tie.close (tie.spec (λ c κs. search rules) (λ c κs. search rules) (λ c κs. search rules) (λ c. search rules) (λ c. search rules) (λ c. search rules) returns)
+pub whole_spec : {M : Type 1} → statement M
+whole_spec = tie.close (tie.spec (λ c κs. search rules) (λ c κs. search rules) (λ c κs. search rules) (λ c. search rules) (λ c. search rules) (λ c. search rules) returns)

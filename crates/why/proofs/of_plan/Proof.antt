@@ -5,11 +5,11 @@ use borrow.Author.Rules.{rules}
 use Rattle.why.proofs.of_plan.Statement.{statement}
 use Rattle.why.proofs.of_plan.Tie as tie
 
-returns : tie.Need-returns
+returns : tie.Need-returns-then-x-eq0
 returns c = (λ _. refl, λ l. absurd (omega arith))
 
-returns-2 : tie.Need-returns-2
+returns-2 : tie.Need-returns
 returns-2 c = (λ e. absurd (omega arith), λ l. c.mark.ensures)
 
-pub of-plan-spec : {M : Type 1} → statement M
-of-plan-spec = tie.close (tie.spec returns (λ c. search rules) (λ c κs. search rules) returns-2)
+pub of_plan_spec : {M : Type 1} → statement M
+of_plan_spec = tie.close (tie.spec returns (λ c. search rules) (λ c κs. search rules) returns-2)

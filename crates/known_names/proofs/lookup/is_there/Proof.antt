@@ -8,14 +8,14 @@ use borrow.Author.Rules.{rules}
 use Rattle.known_names.proofs.lookup.is_there.Statement.{statement}
 use Rattle.known_names.proofs.lookup.is_there.Tie as tie
 
-returns : tie.Need-returns
-returns c = ap (λ (s : Sort). there_of c.before.before.before.args.plan.now s c.before.before.before.args.i) (sym c.enum_told.given.1)
+returns : tie.Need-returns-in-Task
+returns c = ap (λ (s : Sort). there_of c.before.before.before.args.plan.now s c.before.before.before.args.i) (sym c.enum_told-1.given.1)
 
-returns-2 : tie.Need-returns-2
-returns-2 c = ap (λ (s : Sort). there_of c.before.before.before.args.plan.now s c.before.before.before.args.i) (sym c.enum-told2.given.1)
+returns-2 : tie.Need-returns-in-Item
+returns-2 c = ap (λ (s : Sort). there_of c.before.before.before.args.plan.now s c.before.before.before.args.i) (sym c.enum_told-in-Item-1.given.1)
 
-returns-3 : tie.Need-returns-3
-returns-3 c = ap (λ (x : ℕ). eqb x 1) c.cell.ensures ∙ ap (λ (s : Sort). there_of c.before.before.before.before.args.plan.now s c.before.before.before.before.args.i) (sym c.before.enum-told3.given.1)
+returns-3 : tie.Need-returns-in-Trigger
+returns-3 c = ap (λ (x : ℕ). eqb x 1) c.cell.ensures ∙ ap (λ (s : Sort). there_of c.before.before.before.before.args.plan.now s c.before.before.before.before.args.i) (sym c.before.enum_told-in-Trigger-1.given.1)
 
-pub is-there-spec : {M : Type 1} → statement M
-is-there-spec = tie.close (tie.spec (λ c. search rules) (λ c. search rules) (λ c. search rules) (λ c κs. search rules) returns returns-2 returns-3)
+pub is_there_spec : {M : Type 1} → statement M
+is_there_spec = tie.close (tie.spec (λ c. search rules) (λ c. search rules) (λ c. search rules) (λ c κs. search rules) returns returns-2 returns-3)

@@ -4,10 +4,10 @@ use borrow.Author.Rules.{rules}
 use Rattle.known_names.proofs.missing.any.Statement.{statement}
 use Rattle.known_names.proofs.missing.any.Tie as tie
 
-abbrev invariant-loop : tie.invariant-loop
+abbrev invariant-loop : tie.invariant-loop-i
 invariant-loop plan s n i₀ i = Unit {0}
 
-abbrev decreases-loop : tie.decreases-loop
+abbrev decreases-loop : tie.decreases-loop-i
 decreases-loop plan s n i₀ i = n - i
 
 pub any_spec : {M : Type 1} → statement M

@@ -5,20 +5,20 @@ use borrow.Author.Rules.{rules}
 use Rattle.line_answer.proofs.tests.fit.Statement.{statement}
 use Rattle.line_answer.proofs.tests.fit.Tie as tie
 
-returns : tie.Need-returns
-returns c = record { fitted = over c.before.before.before.before.before.before.before.before.requires.0 c.before.before.past_limit.ensures c.enum_told.given.1 }
+returns : tie.Need-returns-in-At
+returns c = record { fitted = over c.before.before.before.before.before.before.before.before.requires.0 c.before.before.past_limit.ensures c.enum_told-1.given.1 }
 
-returns-2 : tie.Need-returns-2
-returns-2 c = record { fitted = too_deep c.before.before.before.before.before.before.before.before.before.before.before.before.before.before.requires.0 c.before.before.before.before.read.ensures c.if1.true }
+returns-2 : tie.Need-returns-then-m-gt-DEPTH
+returns-2 c = record { fitted = too_deep c.before.before.before.before.before.before.before.before.before.before.before.before.before.before.requires.0 c.before.before.before.before.read-m.ensures c.if-m-gt-DEPTH.true }
 
-returns-3 : tie.Need-returns-3
-returns-3 c = record { fitted = too_long c.before.before.before.before.before.before.before.before.before.before.before.before.before.before.before.before.requires.0 c.before.before.before.before.before.before.read.ensures c.if2.true }
+returns-3 : tie.Need-returns-then-m-gt-LIST_LIMIT
+returns-3 c = record { fitted = too_long c.before.before.before.before.before.before.before.before.before.before.before.before.before.before.before.before.requires.0 c.before.before.before.before.before.before.read-m.ensures c.if-m-gt-LIST_LIMIT.true }
 
-returns-4 : tie.Need-returns-4
-returns-4 c = record { fitted = too_many c.before.before.before.before.before.before.before.before.before.before.before.before.before.before.before.before.before.before.requires.0 c.before.before.before.before.before.before.before.before.read.ensures c.if3.true }
+returns-4 : tie.Need-returns-then-m-gt-PARTS
+returns-4 c = record { fitted = too_many c.before.before.before.before.before.before.before.before.before.before.before.before.before.before.before.before.before.before.requires.0 c.before.before.before.before.before.before.before.before.read-m.ensures c.if-m-gt-PARTS.true }
 
-returns-5 : tie.Need-returns-5
-returns-5 c = record { fitted = held (fitting c.before.before.before.before.before.before.before.before.before.before.before.before.before.before.before.before.before.before.requires.0 c.before.before.before.before.before.before.before.before.read.ensures (none_over c.before.before.before.before.before.before.before.before.before.before.before.before.before.before.before.before.before.before.requires.0 c.before.before.before.before.before.before.before.before.before.before.before.before.past_limit.ensures c.before.before.before.before.before.before.before.before.before.before.enum-told2.given.1) c.before.before.before.before.if1.false c.before.before.if2.false c.if3.false) c.before.before.before.before.before.before.before.before.read.ensures c.before.before.before.before.before.before.before.before.before.before.before.before.before.before.before.before.before.before.requires.1 }
+returns-5 : tie.Need-returns
+returns-5 c = record { fitted = held (fitting c.before.before.before.before.before.before.before.before.before.before.before.before.before.before.before.before.before.before.requires.0 c.before.before.before.before.before.before.before.before.read-m.ensures (none_over c.before.before.before.before.before.before.before.before.before.before.before.before.before.before.before.before.before.before.requires.0 c.before.before.before.before.before.before.before.before.before.before.before.before.past_limit.ensures c.before.before.before.before.before.before.before.before.before.before.enum_told-in-Nowhere-1.given.1) c.before.before.before.before.if-m-gt-DEPTH.false c.before.before.if-m-gt-LIST_LIMIT.false c.if-m-gt-PARTS.false) c.before.before.before.before.before.before.before.before.read-m.ensures c.before.before.before.before.before.before.before.before.before.before.before.before.before.before.before.before.before.before.requires.1 }
 
 pub fit_spec : {M : Type 1} → statement M
 fit_spec =

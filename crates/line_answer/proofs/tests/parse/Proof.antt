@@ -4,20 +4,20 @@ use borrow.Author.Rules.{rules}
 use Rattle.line_answer.proofs.tests.parse.Statement.{statement}
 use Rattle.line_answer.proofs.tests.parse.Tie as tie
 
-returns : tie.Need-returns
-returns c = not_read c.before.before.before.before.before.before.before.requires c.before.before.read.ensures c.enum-told2.given.1
+returns : tie.Need-returns-in-Refused
+returns c = not_read c.before.before.before.before.before.before.before.requires c.before.before.read.ensures c.enum_told-in-Refused-1.given.1
 
-returns-2 : tie.Need-returns-2
-returns-2 c = not_unread c.before.before.before.before.before.before.before.requires c.before.before.read.ensures c.enum-told3.given.1
+returns-2 : tie.Need-returns-in-Unread
+returns-2 c = not_unread c.before.before.before.before.before.before.before.requires c.before.before.read.ensures c.enum_told-in-Unread-1.given.1
 
-returns-3 : tie.Need-returns-3
-returns-3 c = left_out c.before.before.before.before.before.before.before.before.before.before.requires (is_read c.before.before.before.before.before.before.before.before.before.before.requires c.before.before.before.before.before.read.ensures c.before.before.before.enum_told.given.1) c.before.before.left_out.ensures c.enum-told4.given.1
+returns-3 : tie.Need-returns-in-At
+returns-3 c = left_out c.before.before.before.before.before.before.before.before.before.before.requires (is_read c.before.before.before.before.before.before.before.before.before.before.requires c.before.before.before.before.before.read.ensures c.before.before.before.enum_told-1.given.1) c.before.before.left_out.ensures c.enum_told-in-At-1.given.1
 
-returns-4 : tie.Need-returns-4
-returns-4 c = parsed c.before.before.before.before.before.before.before.before.before.before.requires (is_read c.before.before.before.before.before.before.before.before.before.before.requires c.before.before.before.before.before.read.ensures c.before.before.before.enum_told.given.1) c.before.before.left_out.ensures c.enum-told5.given.1
+returns-4 : tie.Need-returns-in-Nowhere
+returns-4 c = parsed c.before.before.before.before.before.before.before.before.before.before.requires (is_read c.before.before.before.before.before.before.before.before.before.before.requires c.before.before.before.before.before.read.ensures c.before.before.before.enum_told-1.given.1) c.before.before.left_out.ensures c.enum_told-in-Nowhere-1.given.1
 
-pub parse-spec : {M : Type 1} → statement M
-parse-spec =
+pub parse_spec : {M : Type 1} → statement M
+parse_spec =
     tie.close
     (tie.spec
     (λ c κs. search rules) (λ c. search rules) (λ c. search rules)

@@ -5,11 +5,11 @@ use borrow.Author.Rules.{rules}
 use Rattle.line_answer.proofs.valued.value.Statement.{statement}
 use Rattle.line_answer.proofs.valued.value.Tie as tie
 
-returns : tie.Need-returns
-returns c = λ line h. without_type h refl c.before.before.before.before.before.before.before.before.before.before.before.requires c.before.before.before.before.before.type_of.ensures c.before.before.before.before.if1.true c.before.before.refused.ensures
+returns : tie.Need-returns-then-letter-eq0
+returns c = λ line h. without_type h refl c.before.before.before.before.before.before.before.before.before.before.before.requires c.before.before.before.before.before.type_of-letter.ensures c.before.before.before.before.if-letter-eq0.true c.before.before.refused.ensures
 
-returns-2 : tie.Need-returns-2
-returns-2 c = λ line h. with_type h refl c.before.before.before.before.before.before.before.before.before.before.before.requires c.before.before.before.before.before.type_of.ensures c.before.before.before.before.if1.false c.before.before.worth.ensures
+returns-2 : tie.Need-returns
+returns-2 c = λ line h. with_type h refl c.before.before.before.before.before.before.before.before.before.before.before.requires c.before.before.before.before.before.type_of-letter.ensures c.before.before.before.before.if-letter-eq0.false c.before.before.worth.ensures
 
 pub value_spec : {M : Type 1} → statement M
 value_spec =

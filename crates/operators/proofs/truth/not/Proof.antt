@@ -12,7 +12,7 @@ use Rattle.operators.proofs.truth.not.Tie as tie
 returns : tie.Need-returns
 returns c = λ bs. let a = c.before.before.before.args in
     means bs section-11.not (a.a ∷ []) c.single.result tt
-    (single_is bs c.single.result c.single.ensures ∙ not_comes bs a.a (c.before.is_false.ensures ∙ ap false_c c.before.before.scalar-of.ensures))
+    (single_is bs c.single.result c.single.ensures ∙ not_comes bs a.a (c.before.is_false-t.ensures ∙ ap false_c c.before.before.scalar_of.ensures))
 
-pub not-spec : {M : Type 1} → statement M
-not-spec = tie.close (tie.spec (λ c κs. search rules) (λ c κs. search rules) (λ c κs. search rules) returns)
+pub not_spec : {M : Type 1} → statement M
+not_spec = tie.close (tie.spec (λ c κs. search rules) (λ c κs. search rules) (λ c κs. search rules) returns)

@@ -11,28 +11,28 @@ use Rattle.plan_fill.specs.Rounds.{parents_in, placed_in}
 use Rattle.plan_fill.proofs.order.next.Statement.{statement}
 use Rattle.plan_fill.proofs.order.next.Tie as tie
 
-abbrev invariant-loop : tie.invariant-loop
+abbrev invariant-loop : tie.invariant-loop-t
 invariant-loop f m marks t₀ t = (t ≤ m) × ((i : ℕ) → i < t → ready (parents_in f) (placed_in marks) i ≡ false)
 
-abbrev decreases-loop : tie.decreases-loop
+abbrev decreases-loop : tie.decreases-loop-t
 decreases-loop f m marks t₀ t = m - t
 
-loop-holds : tie.Need-loop-init invariant-loop decreases-loop
+loop-holds : tie.Need-loop-t-init invariant-loop decreases-loop
 loop-holds c = (omega arith, λ i l. absurd (omega arith))
 
-returns : tie.Need-returns invariant-loop decreases-loop
+returns : tie.Need-returns-then-is_ready invariant-loop decreases-loop
 returns c =
     let a = c.before.before.before.before.before.before.args in
-    sym (first_found (ready (parents_in a.f.now) (placed_in a.marks.now)) a.m c.before.before.before.loop.t c.before.before.loop-test.true (sym c.before.is_ready.ensures ∙ c.if1.true) c.before.before.before.loop.invariant.1)
+    sym (first_found (ready (parents_in a.f.now) (placed_in a.marks.now)) a.m c.before.before.before.loop-t.t c.before.before.loop-t-test.true (sym c.before.is_ready.ensures ∙ c.if-is_ready.true) c.before.before.before.loop-t.invariant.1)
 
-loop-again : tie.Need-loop-preserved invariant-loop decreases-loop
-loop-again c = (omega arith, below_more _ _ c.before.before.before.loop.invariant.1 (sym c.before.is_ready.ensures ∙ c.if1.false))
+loop-again : tie.Need-loop-t-preserved invariant-loop decreases-loop
+loop-again c = (omega arith, below_more _ _ c.before.before.before.loop-t.invariant.1 (sym c.before.is_ready.ensures ∙ c.if-is_ready.false))
 
-returns-2 : tie.Need-returns-2 invariant-loop decreases-loop
+returns-2 : tie.Need-returns invariant-loop decreases-loop
 returns-2 c =
     let a = c.before.before.before.before.args in
-    let l = c.loop-test.false in
-    sym (first_none (ready (parents_in a.f.now) (placed_in a.marks.now)) a.m (λ i u. c.before.loop.invariant.1 i (omega arith)))
+    let l = c.loop-t-test.false in
+    sym (first_none (ready (parents_in a.f.now) (placed_in a.marks.now)) a.m (λ i u. c.before.loop-t.invariant.1 i (omega arith)))
 
-pub next-spec : {M : Type 1} → statement M
-next-spec = tie.close (tie.spec invariant-loop decreases-loop loop-holds (λ c κs. search rules) returns (λ c. search rules) (λ c. search rules) loop-again returns-2)
+pub next_spec : {M : Type 1} → statement M
+next_spec = tie.close (tie.spec invariant-loop decreases-loop loop-holds (λ c κs. search rules) returns (λ c. search rules) (λ c. search rules) loop-again returns-2)

@@ -9,31 +9,31 @@ use Rattle.plan_fill.specs.Rounds.{OrderTo, order_none, order_more, held_order}
 use Rattle.plan_fill.proofs.order.order.Statement.{statement}
 use Rattle.plan_fill.proofs.order.order.Tie as tie
 
-abbrev invariant-loop : tie.invariant-loop
+abbrev invariant-loop : tie.invariant-loop-k
 invariant-loop f₀ m marks₀ k₀ f marks k = (k ≤ 32) × (length f ≡ length f₀) × OrderTo m f₀ k f marks
 
-abbrev decreases-loop : tie.decreases-loop
+abbrev decreases-loop : tie.decreases-loop-k
 decreases-loop f₀ m marks₀ k₀ f marks k = 32 - k
 
-loop-holds : tie.Need-loop-init invariant-loop decreases-loop
-loop-holds c = let a = c.before.args in (omega arith, refl, order_none a.m a.f.now)
+loop-holds : tie.Need-loop-k-init invariant-loop decreases-loop
+loop-holds c = let a = c.before.args in (omega arith, refl, order_none a.m a.f-1.now)
 
-loop-again : tie.Need-loop-preserved invariant-loop decreases-loop
+loop-again : tie.Need-loop-k-preserved invariant-loop decreases-loop
 loop-again c =
     let a = c.before.before.before.before.before.before.before.before.before.before.before.before.before.before.args in
-    let v = c.before.before.before.before.before.before.before.before.before.before.before.before.loop.invariant in
-    (omega arith, search rules, order_more a.m c.before.before.before.before.before.before.before.before.before.before.before.before.loop.k a.f.now c.before.before.before.before.before.before.before.before.before.before.before.before.loop.f _ c.before.before.before.before.before.before.before.before.before.before.before.before.loop.marks _ c.before.before.before.before.before.before.before.before.before.before.before.before.before.before.requires v.2 c.before.before.before.before.before.before.before.before.next.ensures c.before.before.before.before.before.before.mark.ensures c.before.before.before.placed.ensures c.before.before.put.ensures)
+    let v = c.before.before.before.before.before.before.before.before.before.before.before.before.loop-k.invariant in
+    (omega arith, search rules, order_more a.m c.before.before.before.before.before.before.before.before.before.before.before.before.loop-k.k a.f-1.now c.before.before.before.before.before.before.before.before.before.before.before.before.loop-k.f-1 _ c.before.before.before.before.before.before.before.before.before.before.before.before.loop-k.marks-1 _ c.before.before.before.before.before.before.before.before.before.before.before.before.before.before.requires v.2 c.before.before.before.before.before.before.before.before.next-t.ensures c.before.before.before.before.before.before.mark.ensures c.before.before.before.placed.ensures c.before.before.put.ensures)
 
-same_length : tie.Need-same-length invariant-loop decreases-loop
-same_length c = c.before.loop.invariant.1
+same_length : tie.Need-shape_of-f invariant-loop decreases-loop
+same_length c = c.before.loop-k.invariant.1
 
 returns : tie.Need-returns invariant-loop decreases-loop
 returns c = λ q h.
     let a = c.before.before.before.args in
-    let v = c.before.loop.invariant in
+    let v = c.before.loop-k.invariant in
     let l = v.0 in
-    let z = c.loop-test.false in
-    held_order (q parent) a.m q c.before.loop.k (omega arith) (v.2.1 q h).0
+    let z = c.loop-k-test.false in
+    held_order (q parent) a.m q c.before.loop-k.k (omega arith) (v.2.1 q h).0
 
-pub order-spec : {M : Type 1} → statement M
-order-spec = tie.close (tie.spec invariant-loop decreases-loop loop-holds (λ c. search rules) (λ c κs. search rules) (λ c. search rules) (λ c κs. search rules) (λ c κs. search rules) (λ c κs. search rules) (λ c. search rules) (λ c. search rules) loop-again same_length returns)
+pub order_spec : {M : Type 1} → statement M
+order_spec = tie.close (tie.spec invariant-loop decreases-loop loop-holds (λ c. search rules) (λ c κs. search rules) (λ c. search rules) (λ c κs. search rules) (λ c κs. search rules) (λ c κs. search rules) (λ c. search rules) (λ c. search rules) loop-again same_length returns)

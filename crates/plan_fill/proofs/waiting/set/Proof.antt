@@ -7,14 +7,14 @@ use Rattle.plan_fill.specs.Waiting.{sets_low, sets_right, sets_in}
 use Rattle.plan_fill.proofs.waiting.set.Statement.{statement}
 use Rattle.plan_fill.proofs.waiting.set.Tie as tie
 
-returns : tie.Need-returns
-returns c = let a = c.before.args in sets_low a.w a.t a.a c.if1.true
+returns : tie.Need-returns-then-t-ge-LIMIT
+returns c = let a = c.before.args in sets_low a.w a.t a.a c.if-t-ge-LIMIT.true
 
-returns-2 : tie.Need-returns-2
-returns-2 c = let a = c.before.before.args in sets_right a.w a.t a.a c.if2.true
+returns-2 : tie.Need-returns-then-a-ge-LIMIT
+returns-2 c = let a = c.before.before.args in sets_right a.w a.t a.a c.if-a-ge-LIMIT.true
 
-returns-3 : tie.Need-returns-3
-returns-3 c = let a = c.before.before.before.args in sets_in a.w a.t a.a c.before.before.if1.false c.before.if2.false
+returns-3 : tie.Need-returns
+returns-3 c = let a = c.before.before.before.args in sets_in a.w a.t a.a c.before.before.if-t-ge-LIMIT.false c.before.if-a-ge-LIMIT.false
 
 pub set_spec : {M : Type 1} → statement M
 set_spec = tie.close (tie.spec returns returns-2 (λ c. search rules) (λ c. search rules) (λ c. search rules) (λ c. search rules) (λ c. search rules) returns-3)

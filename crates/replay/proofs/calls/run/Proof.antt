@@ -6,10 +6,10 @@ use borrow.Author.Rules.{rules}
 use Rattle.replay.proofs.calls.run.Statement.{statement}
 use Rattle.replay.proofs.calls.run.Tie as tie
 
-returns : tie.Need-returns
+returns : tie.Need-returns-then-lent-gt-ROWS_LENT
 returns c = too_many (omega arith) refl refl refl
 
-returns-2 : tie.Need-returns-2
+returns-2 : tie.Need-returns
 returns-2 c = runs (omega arith) c.before.before.before.before.run_alone.ensures
 
 pub run_spec : {M : Type 1} → statement M

@@ -7,17 +7,17 @@ use borrow.Author.Rules.{rules}
 use Rattle.replay.proofs.calls.trigger.Statement.{statement}
 use Rattle.replay.proofs.calls.trigger.Tie as tie
 
-returns : tie.Need-returns
+returns : tie.Need-returns-then-bytes-n
 returns c = too_few (omega arith) refl refl
 
-slice-aggregate-trigger : tie.Need-slice-aggregate-trigger
+slice-aggregate-trigger : tie.Need-slice_bounds-trigger-end
 slice-aggregate-trigger c = simp length-take (omega arith)
 
-returns-2 : tie.Need-returns-2
+returns-2 : tie.Need-returns
 returns-2 c = sent (omega arith) c.before.before.before.before.before.before.trigger.result c.before.before.before.before.before.before.trigger.ensures c.before.before.replied.ensures
 
-pub trigger-spec : {M : Type 1} → statement M
-trigger-spec =
+pub trigger_spec : {M : Type 1} → statement M
+trigger_spec =
     tie.close
     (tie.spec
     returns

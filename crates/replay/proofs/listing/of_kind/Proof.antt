@@ -10,31 +10,31 @@ use borrow.Author.Rules.{rules}
 use Rattle.replay.proofs.listing.of_kind.Statement.{statement}
 use Rattle.replay.proofs.listing.of_kind.Tie as tie
 
-abbrev invariant-loop : tie.invariant-loop
+abbrev invariant-loop : tie.invariant-loop-number
 invariant-loop texts plan waits state kind out₀ o number₀ p₀ out number p =
     (length out ≡ length out₀) × (number ≤ 128) × Series (ComponentListed texts plan waits state kind) number (buffer out₀ o) (buffer out p)
 
-abbrev decreases-loop : tie.decreases-loop
+abbrev decreases-loop : tie.decreases-loop-number
 decreases-loop texts plan waits state kind out₀ o number₀ p₀ out number p = 128 - number
 
-loop-holds : tie.Need-loop-init invariant-loop decreases-loop
+loop-holds : tie.Need-loop-number-init invariant-loop decreases-loop
 loop-holds c = (search rules, search rules, none)
 
-returns : tie.Need-returns invariant-loop decreases-loop
+returns : tie.Need-returns-then-not-is_there invariant-loop decreases-loop
 returns c =
-    let l = c.before.before.before.loop in
-    record { number = l.number; components = l.invariant.2; all = inr (omega arith, is_absent c.before.is_there.ensures c.if1.true) }
+    let l = c.before.before.before.loop-number in
+    record { number = l.number; components = l.invariant.2; all = inr (omega arith, is_absent c.before.is_there.ensures c.if-not-is_there.true-raw) }
 
-loop-again : tie.Need-loop-preserved invariant-loop decreases-loop
-loop-again c = (search rules, search rules, one_more c.before.before.before.before.before.before.before.loop.invariant.2 (record { there = is_present c.before.before.before.before.before.is_there.ensures c.before.before.before.before.if1.false; rows = c.before.before.component.ensures }))
+loop-again : tie.Need-loop-number-preserved invariant-loop decreases-loop
+loop-again c = (search rules, search rules, one_more c.before.before.before.before.before.before.before.loop-number.invariant.2 (record { there = is_present c.before.before.before.before.before.is_there.ensures c.before.before.before.before.if-not-is_there.false-raw; rows = c.before.before.component-p.ensures }))
 
-returns-2 : tie.Need-returns-2 invariant-loop decreases-loop
+returns-2 : tie.Need-returns invariant-loop decreases-loop
 returns-2 c =
-    let l = c.before.loop in
+    let l = c.before.loop-number in
     record { number = l.number; components = l.invariant.2; all = inl (omega arith) }
 
-pub of-kind-spec : {M : Type 1} → statement M
-of-kind-spec =
+pub of_kind_spec : {M : Type 1} → statement M
+of_kind_spec =
     tie.close
     (tie.spec
     invariant-loop

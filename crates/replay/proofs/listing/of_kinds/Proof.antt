@@ -9,27 +9,27 @@ use borrow.Author.Rules.{rules}
 use Rattle.replay.proofs.listing.of_kinds.Statement.{statement}
 use Rattle.replay.proofs.listing.of_kinds.Tie as tie
 
-abbrev invariant-loop : tie.invariant-loop
+abbrev invariant-loop : tie.invariant-loop-kind
 invariant-loop texts plan waits state out₀ o kind₀ p₀ out kind p =
     (length out ≡ length out₀) × (kind ≤ 7) × Series (KindListed texts plan waits state) kind (buffer out₀ o) (buffer out p)
 
-abbrev decreases-loop : tie.decreases-loop
+abbrev decreases-loop : tie.decreases-loop-kind
 decreases-loop texts plan waits state out₀ o kind₀ p₀ out kind p = 7 - kind
 
-loop-holds : tie.Need-loop-init invariant-loop decreases-loop
+loop-holds : tie.Need-loop-kind-init invariant-loop decreases-loop
 loop-holds c = (search rules, search rules, none)
 
-loop-again : tie.Need-loop-preserved invariant-loop decreases-loop
-loop-again c = (search rules, search rules, one_more c.before.before.before.before.before.loop.invariant.2 c.before.before.of_kind.ensures)
+loop-again : tie.Need-loop-kind-preserved invariant-loop decreases-loop
+loop-again c = (search rules, search rules, one_more c.before.before.before.before.before.loop-kind.invariant.2 c.before.before.of_kind-p.ensures)
 
 returns : tie.Need-returns invariant-loop decreases-loop
 returns c =
-    let l = c.before.loop in
+    let l = c.before.loop-kind in
     let e : l.kind ≡ 7 = omega arith in
     so_many e l.invariant.2
 
-pub of-kinds-spec : {M : Type 1} → statement M
-of-kinds-spec =
+pub of_kinds_spec : {M : Type 1} → statement M
+of_kinds_spec =
     tie.close
     (tie.spec
     invariant-loop

@@ -5,10 +5,10 @@ use Rattle.replay.proofs.listing.row_line.Statement.{statement}
 use Rattle.replay.proofs.listing.row_line.Tie as tie
 
 returns : tie.Need-returns
-returns c = from_room c.before.before.before.before.before.before.before.before.args.o c.before.before.before.before.room.ensures c.before.before.row.ensures
+returns c = from_room c.before.before.before.before.before.before.before.before.args.o c.before.before.before.before.room-from.ensures c.before.before.row.ensures
 
-pub row-line-spec : {M : Type 1} → statement M
-row-line-spec =
+pub row_line_spec : {M : Type 1} → statement M
+row_line_spec =
     tie.close
     (tie.spec
     (λ c κs. search rules) (λ c κs. search rules) (λ c. search rules)

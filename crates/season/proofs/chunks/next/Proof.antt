@@ -5,11 +5,11 @@ use borrow.Author.Rules.{rules}
 use Rattle.season.proofs.chunks.next.Statement.{statement}
 use Rattle.season.proofs.chunks.next.Tie as tie
 
-slice-aggregate-in-chunk : tie.Need-slice-aggregate-in-chunk
+slice-aggregate-in-chunk : tie.Need-slice_bounds-in_chunk-end-2
 slice-aggregate-in-chunk c = simp length-take (omega arith)
 
-pub next-spec : {M : Type 1} → statement M
-next-spec =
+pub next_spec : {M : Type 1} → statement M
+next_spec =
     tie.close
     (tie.spec
     (λ c. search rules)

@@ -5,11 +5,11 @@ use borrow.Author.Rules.{rules}
 use Rattle.season.proofs.chunks.opened.Statement.{statement}
 use Rattle.season.proofs.chunks.opened.Tie as tie
 
-slice-aggregate-begin : tie.Need-slice-aggregate-begin
+slice-aggregate-begin : tie.Need-slice_bounds-begin-end-2
 slice-aggregate-begin c = simp length-take (omega arith)
 
-pub opened-spec : {M : Type 1} → statement M
-opened-spec =
+pub opened_spec : {M : Type 1} → statement M
+opened_spec =
     tie.close
     (tie.spec
     (λ c κs. search rules) (λ c. search rules)

@@ -6,11 +6,11 @@ use borrow.Author.Rules.{rules}
 use Rattle.season.proofs.fields.item_of.Statement.{statement}
 use Rattle.season.proofs.fields.item_of.Tie as tie
 
-returns : tie.Need-returns
-returns c = simp (eq-eqb _ _ (sym c.before.cell.ensures ∙ c.if1.true))
+returns : tie.Need-returns-then-c-eq0
+returns c = simp (eq-eqb _ _ (sym c.before.cell-c.ensures ∙ c.if-c-eq0.true))
 
-returns-2 : tie.Need-returns-2
-returns-2 c = simp (ne_eqb _ _ (λ e. c.if1.false (c.before.cell.ensures ∙ e))) (ap (λ (x : ℕ). x - 1) c.before.cell.ensures)
+returns-2 : tie.Need-returns
+returns-2 c = simp (ne_eqb _ _ (λ e. c.if-c-eq0.false (c.before.cell-c.ensures ∙ e))) (ap (λ (x : ℕ). x - 1) c.before.cell-c.ensures)
 
-pub item-of-spec : {M : Type 1} → statement M
-item-of-spec = tie.close (tie.spec (λ c κs. search rules) returns (λ c. search rules) returns-2)
+pub item_of_spec : {M : Type 1} → statement M
+item_of_spec = tie.close (tie.spec (λ c κs. search rules) returns (λ c. search rules) returns-2)

@@ -6,23 +6,23 @@ use borrow.Author.Rules.{rules}
 use Rattle.season.proofs.first_line.behind_mark.Statement.{statement}
 use Rattle.season.proofs.first_line.behind_mark.Tie as tie
 
-returns : tie.Need-returns
-returns c = too_short c.before.args.chunk.now c.if1.true
+returns : tie.Need-returns-then-chunk-lt3
+returns c = too_short c.before.args.chunk.now c.if-chunk-lt3.true
 
-returns-2 : tie.Need-returns-2
-returns-2 c = mark c.before.before.before.args.chunk.now (ne_eqb _ 239 c.if2.true) refl refl
+returns-2 : tie.Need-returns-then-chunk
+returns-2 c = mark c.before.before.before.args.chunk.now (ne_eqb _ 239 c.if-chunk.true) refl refl
 
-returns-3 : tie.Need-returns-3
-returns-3 c = mark c.before.before.before.before.before.args.chunk.now (eq-eqb _ 239 c.before.before.if2.false) (ne_eqb _ 187 c.if3.true) refl
+returns-3 : tie.Need-returns-then-chunk-2
+returns-3 c = mark c.before.before.before.before.before.args.chunk.now (eq-eqb _ 239 c.before.before.if-chunk.false) (ne_eqb _ 187 c.if-chunk-2.true) refl
 
-returns-4 : tie.Need-returns-4
-returns-4 c = mark c.before.before.before.before.before.before.before.args.chunk.now (eq-eqb _ 239 c.before.before.before.before.if2.false) (eq-eqb _ 187 c.before.before.if3.false) (ne_eqb _ 191 c.if4.true)
+returns-4 : tie.Need-returns-then-chunk-3
+returns-4 c = mark c.before.before.before.before.before.before.before.args.chunk.now (eq-eqb _ 239 c.before.before.before.before.if-chunk.false) (eq-eqb _ 187 c.before.before.if-chunk-2.false) (ne_eqb _ 191 c.if-chunk-3.true)
 
-returns-5 : tie.Need-returns-5
-returns-5 c = mark c.before.before.before.before.before.before.before.args.chunk.now (eq-eqb _ 239 c.before.before.before.before.if2.false) (eq-eqb _ 187 c.before.before.if3.false) (eq-eqb _ 191 c.if4.false)
+returns-5 : tie.Need-returns
+returns-5 c = mark c.before.before.before.before.before.before.before.args.chunk.now (eq-eqb _ 239 c.before.before.before.before.if-chunk.false) (eq-eqb _ 187 c.before.before.if-chunk-2.false) (eq-eqb _ 191 c.if-chunk-3.false)
 
-pub behind-mark-spec : {M : Type 1} → statement M
-behind-mark-spec =
+pub behind_mark_spec : {M : Type 1} → statement M
+behind_mark_spec =
     tie.close
     (tie.spec
     returns

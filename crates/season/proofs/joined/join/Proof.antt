@@ -5,10 +5,10 @@ use Rattle.season.proofs.joined.join.Statement.{statement}
 use Rattle.season.proofs.joined.join.Tie as tie
 
 returns : tie.Need-returns
-returns c = λ room. joined room c.before.before.before.before.before.before.before.before.before.before.copy-cells.ensures c.before.before.before.before.before.before.copy-cells2.ensures c.before.before.copy-cells3.ensures
+returns c = λ room. joined room c.before.before.before.before.before.before.before.before.before.before.copy_cells.ensures c.before.before.before.before.before.before.copy_cells-2.ensures c.before.before.copy_cells-3.ensures
 
-pub join-spec : {M : Type 1} → statement M
-join-spec =
+pub join_spec : {M : Type 1} → statement M
+join_spec =
     tie.close
     (tie.spec
     (λ c κs. search rules) (λ c κs. search rules) (λ c. search rules) (λ c κs. search rules) (λ c. search rules)

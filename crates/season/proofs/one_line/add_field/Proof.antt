@@ -5,18 +5,18 @@ use borrow.Author.Rules.{rules}
 use Rattle.season.proofs.one_line.add_field.Statement.{statement}
 use Rattle.season.proofs.one_line.add_field.Tie as tie
 
-returns : tie.Need-returns
+returns : tie.Need-returns-then-d-ge-LIMIT
 returns c =
     let a = c.before.before.before.before.before.before.before.before.before.args in
-    label_as a.columns.now a.kept.now a.ends.now a.plan.now a.i a.texts.now a.state.now c.before.before.item_of.ensures c.before.cell.ensures c.if1.true
+    label_as a.columns.now a.kept.now a.ends.now a.plan.now a.i a.texts-1.now a.state-1.now c.before.before.item_of-d.ensures c.before.cell-name.ensures c.if-d-ge-LIMIT.true
 
-returns-2 : tie.Need-returns-2
+returns-2 : tie.Need-returns
 returns-2 c =
     let a = c.before.before.before.before.before.before.before.before.before.before.before.before.before.before.before.before.before.before.before.before.args in
-    item_as a.columns.now a.kept.now a.ends.now a.plan.now a.i a.texts.now a.state.now c.before.before.before.before.before.before.before.before.before.before.before.before.before.item_of.ensures c.before.before.before.before.before.before.before.before.before.before.before.before.cell.ensures (omega arith) c.before.before.before.before.before.before.before.before.before.before.field.ensures c.before.before.before.before.before.before.before.add.ensures
+    item_as a.columns.now a.kept.now a.ends.now a.plan.now a.i a.texts-1.now a.state-1.now c.before.before.before.before.before.before.before.before.before.before.before.before.before.item_of-d.ensures c.before.before.before.before.before.before.before.before.before.before.before.before.cell-name.ensures (omega arith) c.before.before.before.before.before.before.before.before.before.before.field-f.ensures c.before.before.before.before.before.before.before.add-number.ensures
 
-pub add-field-spec : {M : Type 1} → statement M
-add-field-spec =
+pub add_field_spec : {M : Type 1} → statement M
+add_field_spec =
     tie.close
     (tie.spec
     (λ c κs. search rules) (λ c κs. search rules)

@@ -7,10 +7,10 @@ use Rattle.season.proofs.one_line.answer.Statement.{statement}
 use Rattle.season.proofs.one_line.answer.Tie as tie
 
 returns : tie.Need-returns
-returns c = line_as c.before.before.before.before.before.before.before.before.before.before.labels.ensures (c.before.before.before.before.in-copies.ensures (omega arith) (omega arith))
+returns c = line_as c.before.before.before.before.before.before.before.before.before.before.labels-p.ensures (c.before.before.before.before.in_copies.ensures (omega arith) (omega arith))
 
-pub answer-spec : {M : Type 1} → statement M
-answer-spec =
+pub answer_spec : {M : Type 1} → statement M
+answer_spec =
     tie.close
     (tie.spec
     (λ c κs. search rules) (λ c κs. search rules) (λ c. search rules) (λ c. search rules) (λ c κs. search rules) (λ c. search rules)

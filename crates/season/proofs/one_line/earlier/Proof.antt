@@ -4,14 +4,14 @@ use borrow.Author.Rules.{rules}
 use Rattle.season.proofs.one_line.earlier.Statement.{statement}
 use Rattle.season.proofs.one_line.earlier.Tie as tie
 
-returns : tie.Need-returns
-returns c = (simp (ne_eqb _ _ c.if1.true), simp (ne_eqb _ _ c.if1.true))
+returns : tie.Need-returns-then-a-ne-NONE
+returns c = (simp (ne_eqb _ _ c.if-a-ne-NONE.true), simp (ne_eqb _ _ c.if-a-ne-NONE.true))
 
-returns-2 : tie.Need-returns-2
-returns-2 c = (simp (eq-eqb _ _ c.if1.false), simp (eq-eqb _ _ c.if1.false))
+returns-2 : tie.Need-returns
+returns-2 c = (simp (eq-eqb _ _ c.if-a-ne-NONE.false), simp (eq-eqb _ _ c.if-a-ne-NONE.false))
 
-pub earlier-spec : {M : Type 1} → statement M
-earlier-spec =
+pub earlier_spec : {M : Type 1} → statement M
+earlier_spec =
     tie.close
     (tie.spec
     returns

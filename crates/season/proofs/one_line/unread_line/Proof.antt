@@ -5,7 +5,7 @@ use Rattle.season.proofs.one_line.unread_line.Statement.{statement}
 use Rattle.season.proofs.one_line.unread_line.Tie as tie
 
 returns : tie.Need-returns
-returns c = append_then (append_then c.before.before.before.before.before.before.before.before.before.before.no-labels.ensures c.before.before.before.before.before.before.blanks.ensures) c.before.before.unread.ensures
+returns c = append_then (append_then c.before.before.before.before.before.before.before.before.before.before.no_labels-p.ensures c.before.before.before.before.before.before.blanks-q.ensures) c.before.before.unread.ensures
 
-pub unread-line-spec : {M : Type 1} → statement M
-unread-line-spec = tie.close (tie.spec (λ c κs. search rules) (λ c κs. search rules) (λ c κs. search rules) (λ c. search rules) returns)
+pub unread_line_spec : {M : Type 1} → statement M
+unread_line_spec = tie.close (tie.spec (λ c κs. search rules) (λ c κs. search rules) (λ c κs. search rules) (λ c. search rules) returns)

@@ -5,10 +5,10 @@ use Rattle.season.proofs.one_line.write_ended.Statement.{statement}
 use Rattle.season.proofs.one_line.write_ended.Tie as tie
 
 returns : tie.Need-returns
-returns c = append_then (append_then c.before.before.before.before.before.before.before.before.before.before.item-values.ensures c.before.before.before.before.before.before.reached.ensures) c.before.before.ended.ensures
+returns c = append_then (append_then c.before.before.before.before.before.before.before.before.before.before.item_values-p.ensures c.before.before.before.before.before.before.reached-q.ensures) c.before.before.ended.ensures
 
-pub write-ended-spec : {M : Type 1} → statement M
-write-ended-spec =
+pub write_ended_spec : {M : Type 1} → statement M
+write_ended_spec =
     tie.close
     (tie.spec
     (λ c κs. search rules) (λ c κs. search rules) (λ c κs. search rules) (λ c. search rules)

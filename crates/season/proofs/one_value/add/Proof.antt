@@ -5,10 +5,10 @@ use borrow.Author.Rules.{rules}
 use Rattle.season.proofs.one_value.add.Statement.{statement}
 use Rattle.season.proofs.one_value.add.Tie as tie
 
-returns : tie.Need-returns
-returns c = no_field c.if1.true
+returns : tie.Need-returns-then-field-eq0
+returns c = no_field c.if-field-eq0.true
 
-returns-2 : tie.Need-returns-2
+returns-2 : tie.Need-returns
 returns-2 c = a_field (λ e. omega arith) c.before.before.before.before.before.before.before.through.ensures
 
 pub add_spec : {M : Type 1} → statement M

@@ -4,14 +4,14 @@ use borrow.Author.Rules.{rules}
 use Rattle.season.proofs.records.answered_at.Statement.{statement}
 use Rattle.season.proofs.records.answered_at.Tie as tie
 
-returns : tie.Need-returns
-returns c = unread_as c.before.before.before.before.before.before.before.before.room.ensures c.before.before.before.before.plan-of.ensures c.before.before.before.before.before.before.is_spoilt.ensures c.before.before.before.before.before.if1.true c.before.before.unread_line.ensures
+returns : tie.Need-returns-then-is_spoilt
+returns c = unread_as c.before.before.before.before.before.before.before.before.room-from.ensures c.before.before.before.before.plan_of.ensures c.before.before.before.before.before.before.is_spoilt.ensures c.before.before.before.before.before.if-is_spoilt.true c.before.before.unread_line.ensures
 
-returns-2 : tie.Need-returns-2
-returns-2 c = read_as c.before.before.before.before.before.before.before.room.ensures c.before.before.before.before.before.is_spoilt.ensures c.before.before.before.before.if1.false c.before.before.answer.ensures
+returns-2 : tie.Need-returns
+returns-2 c = read_as c.before.before.before.before.before.before.before.room-from.ensures c.before.before.before.before.before.is_spoilt.ensures c.before.before.before.before.if-is_spoilt.false c.before.before.answer.ensures
 
-pub answered-at-spec : {M : Type 1} → statement M
-answered-at-spec =
+pub answered_at_spec : {M : Type 1} → statement M
+answered_at_spec =
     tie.close
     (tie.spec
     (λ c κs. search rules) (λ c κs. search rules) (λ c κs. search rules) (λ c κs. search rules) (λ c. search rules)

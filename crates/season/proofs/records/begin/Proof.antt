@@ -16,5 +16,5 @@ returns c =
     let a = c.before.before.args in
     ap (λ (s : Scan). made s a.o c.one_more.result a.answered) c.before.begin.ensures ∙ ap (λ (l : ℕ). made (begun a.lines) a.o l a.answered) c.one_more.ensures
 
-pub begin-spec : {M : Type 1} → statement M
-begin-spec = tie.close (tie.spec (λ c κs. search rules) (λ c κs. search rules) returns)
+pub begin_spec : {M : Type 1} → statement M
+begin_spec = tie.close (tie.spec (λ c κs. search rules) (λ c κs. search rules) returns)

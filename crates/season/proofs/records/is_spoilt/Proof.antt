@@ -4,17 +4,17 @@ use borrow.Author.Rules.{rules}
 use Rattle.season.proofs.records.is_spoilt.Statement.{statement}
 use Rattle.season.proofs.records.is_spoilt.Tie as tie
 
-returns : tie.Need-returns
-returns c = let a = c.before.before.before.args in with_fault a.scan a.many c.before.if1.true
+returns : tie.Need-returns-then-scan-ne-NONE
+returns c = let a = c.before.before.before.args in with_fault a.scan a.many c.before.if-scan-ne-NONE.true
 
-returns-2 : tie.Need-returns-2
-returns-2 c = let a = c.before.before.before.before.before.args in other_number a.scan a.many c.before.before.before.if1.false c.before.if2.true
+returns-2 : tie.Need-returns-then-scan-many
+returns-2 c = let a = c.before.before.before.before.before.args in other_number a.scan a.many c.before.before.before.if-scan-ne-NONE.false c.before.if-scan-many.true
 
-returns-3 : tie.Need-returns-3
-returns-3 c = let a = c.before.before.before.before.args in as_many a.scan a.many c.before.before.if1.false c.if2.false
+returns-3 : tie.Need-returns
+returns-3 c = let a = c.before.before.before.before.args in as_many a.scan a.many c.before.before.if-scan-ne-NONE.false c.if-scan-many.false
 
-pub is-spoilt-spec : {M : Type 1} → statement M
-is-spoilt-spec =
+pub is_spoilt_spec : {M : Type 1} → statement M
+is_spoilt_spec =
     tie.close
     (tie.spec
     (λ c κs. search rules)

@@ -4,11 +4,11 @@ use borrow.Author.Rules.{rules}
 use Rattle.season.proofs.records.one_more.Statement.{statement}
 use Rattle.season.proofs.records.one_more.Tie as tie
 
-returns : tie.Need-returns
-returns c = simp (eq-eqb _ _ c.if1.true)
+returns : tie.Need-returns-then-n-eq18446744073709551615
+returns c = simp (eq-eqb _ _ c.if-n-eq18446744073709551615.true)
 
-returns-2 : tie.Need-returns-2
-returns-2 c = simp (ne_eqb _ _ c.if1.false)
+returns-2 : tie.Need-returns
+returns-2 c = simp (ne_eqb _ _ c.if-n-eq18446744073709551615.false)
 
-pub one-more-spec : {M : Type 1} → statement M
-one-more-spec = tie.close (tie.spec returns (λ c. search rules) returns-2)
+pub one_more_spec : {M : Type 1} → statement M
+one_more_spec = tie.close (tie.spec returns (λ c. search rules) returns-2)

@@ -5,17 +5,17 @@ use Rattle.season.specs.UntilQuietLaws.{confirmed_as}
 use Rattle.season.proofs.until_quiet.goes_on.Statement.{statement}
 use Rattle.season.proofs.until_quiet.goes_on.Tie as tie
 
-returns : tie.Need-returns
-returns c = not_quiet c.if1.true
+returns : tie.Need-returns-then-ending-ne-QUIET
+returns c = not_quiet c.if-ending-ne-QUIET.true
 
-returns-2 : tie.Need-returns-2
-returns-2 c = confirmed_as c.before.before.before.before.before.before.before.before.before.before.before.before.before.if1.false c.before.before.before.before.before.if2.true c.before.before.before.before.before.before.before.before.before.before.answer-asked.ensures c.before.before.before.confirm.ensures c.either.ensures
+returns-2 : tie.Need-returns-then-confirms
+returns-2 c = confirmed_as c.before.before.before.before.before.before.before.before.before.before.before.before.before.if-ending-ne-QUIET.false c.before.before.before.before.before.if-confirms.true c.before.before.before.before.before.before.before.before.before.before.answer_asked-answered.ensures c.before.before.before.confirm-confirmed.ensures c.either.ensures
 
-returns-3 : tie.Need-returns-3
-returns-3 c = answered c.before.before.before.before.before.before.before.before.if1.false c.if2.false c.before.before.before.before.before.answer-asked.ensures
+returns-3 : tie.Need-returns
+returns-3 c = answered c.before.before.before.before.before.before.before.before.if-ending-ne-QUIET.false c.if-confirms.false c.before.before.before.before.before.answer_asked-answered.ensures
 
-pub goes-on-spec : {M : Type 1} → statement M
-goes-on-spec =
+pub goes_on_spec : {M : Type 1} → statement M
+goes_on_spec =
     tie.close
     (tie.spec
     returns

@@ -8,10 +8,10 @@ use Rattle.season_answer.proofs.ends.refusal.Statement.{statement}
 use Rattle.season_answer.proofs.ends.refusal.Tie as tie
 
 returns : tie.Need-returns
-returns c = append_then (append_then (append_then c.before.before.before.before.before.before.before.before.before.before.before.before.before.before.before.before.word.ensures (appends_as (ap (λ (n : ℕ). digits_of n) (sym c.before.before.before.before.before.before.before.before.before.before.before.before.before.wide.ensures)) c.before.before.before.before.before.before.before.before.before.before.before.number.ensures)) c.before.before.before.before.before.before.word2.ensures) c.before.before.name.ensures
+returns c = append_then (append_then (append_then c.before.before.before.before.before.before.before.before.before.before.before.before.before.before.before.before.word-p.ensures (appends_as (ap (λ (n : ℕ). digits_of n) (sym c.before.before.before.before.before.before.before.before.before.before.before.before.before.wide.ensures)) c.before.before.before.before.before.before.before.before.before.before.before.number-q.ensures)) c.before.before.before.before.before.before.word-r.ensures) c.before.before.name.ensures
 
-pub refusal-spec : {M : Type 1} → statement M
-refusal-spec =
+pub refusal_spec : {M : Type 1} → statement M
+refusal_spec =
     tie.close
     (tie.spec
     (λ c. search rules) (λ c κs. search rules) (λ c κs. search rules) (λ c κs. search rules) (λ c. search rules) (λ c κs. search rules)

@@ -14,12 +14,12 @@ returns : tie.Need-returns
 returns c =
     let a = c.before.before.before.before.before.before.before.before.before.before.before.before.before.before.before.before.before.before.args in
     let long = refusal_long a.number a.texts.now a.h in
-    let (is, k) = in_front c.before.before.before.before.before.before.before.before.before.before.before.before.before.before.refusal.ensures (omega arith) in
-    let same = c.before.before.before.before.before.before.before.before.before.before.before.before.before.before.refusal.ensures.same in
-    append_then (append_then c.before.before.before.before.before.before.before.before.before.before.before.nothing.ensures c.before.before.before.before.before.before.before.nothing2.ensures) (appends_as (ap (λ (w : List ℕ). last_written a.separator w) (sym is)) (c.before.before.last-first.ensures (omega arith)))
+    let (is, k) = in_front c.before.before.before.before.before.before.before.before.before.before.before.before.before.before.refusal-k.ensures (omega arith) in
+    let same = c.before.before.before.before.before.before.before.before.before.before.before.before.before.before.refusal-k.ensures.same in
+    append_then (append_then c.before.before.before.before.before.before.before.before.before.before.before.nothing-p.ensures c.before.before.before.before.before.before.before.nothing-q.ensures) (appends_as (ap (λ (w : List ℕ). last_written a.separator w) (sym is)) (c.before.before.last_first.ensures (omega arith)))
 
-pub refused-spec : {M : Type 1} → statement M
-refused-spec =
+pub refused_spec : {M : Type 1} → statement M
+refused_spec =
     tie.close
     (tie.spec
     (λ c. search rules) (λ c κs. search rules) (λ c κs. search rules) (λ c κs. search rules) (λ c. search rules) (λ c κs. search rules)

@@ -14,12 +14,12 @@ returns : tie.Need-returns
 returns c =
     let a = c.before.before.before.before.before.before.before.before.before.before.args in
     let long = text_long a.texts.now a.h in
-    let (is, k) = in_front c.before.before.before.before.before.before.name.ensures (omega arith) in
-    let same = c.before.before.before.before.before.before.name.ensures.same in
+    let (is, k) = in_front c.before.before.before.before.before.before.name-k.ensures (omega arith) in
+    let same = c.before.before.before.before.before.before.name-k.ensures.same in
     appends_as (ap (λ (w : List ℕ). field_written a.separator w) (sym is)) (c.before.before.first.ensures (omega arith))
 
-pub item-spec : {M : Type 1} → statement M
-item-spec =
+pub item_spec : {M : Type 1} → statement M
+item_spec =
     tie.close
     (tie.spec
     (λ c. search rules) (λ c κs. search rules) (λ c. search rules) (λ c κs. search rules) (λ c. search rules)

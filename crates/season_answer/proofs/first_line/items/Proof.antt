@@ -12,27 +12,27 @@ use Rattle.season_answer.specs.FieldsLaws.{Turn, turn_none, turn_more, turn_all}
 use Rattle.season_answer.proofs.first_line.items.Statement.{statement}
 use Rattle.season_answer.proofs.first_line.items.Tie as tie
 
-abbrev invariant-loop : tie.invariant-loop
+abbrev invariant-loop : tie.invariant-loop-d
 invariant-loop plan texts separator out₀ o n p₀ d₀ out p d = (length out ≡ length out₀) × (n ≡ item_count plan) × Turn (name_written plan texts separator) n out₀ out o p d
 
-abbrev decreases-loop : tie.decreases-loop
+abbrev decreases-loop : tie.decreases-loop-d
 decreases-loop plan texts separator out₀ o n p₀ d₀ out p d = n - d
 
-loop-holds : tie.Need-loop-init invariant-loop decreases-loop
-loop-holds c = (search rules, c.count.ensures.0, turn_none _ _ _ _)
+loop-holds : tie.Need-loop-d-init invariant-loop decreases-loop
+loop-holds c = (search rules, c.count-n.ensures.0, turn_none _ _ _ _)
 
-loop-again : tie.Need-loop-preserved invariant-loop decreases-loop
+loop-again : tie.Need-loop-d-preserved invariant-loop decreases-loop
 loop-again c =
     let a = c.before.before.before.before.before.before.before.before.before.before.before.args in
-    (search rules, c.before.before.before.before.before.before.loop.invariant.1, turn_more c.before.before.before.before.before.before.loop.invariant.2 (omega arith) (appends_as (ap (λ (h : ℕ). field_written a.separator (text_at_fn a.texts.now h)) (sym c.before.before.before.before.cell.ensures)) c.before.before.item.ensures))
+    (search rules, c.before.before.before.before.before.before.loop-d.invariant.1, turn_more c.before.before.before.before.before.before.loop-d.invariant.2 (omega arith) (appends_as (ap (λ (h : ℕ). field_written a.separator (text_at_fn a.texts.now h)) (sym c.before.before.before.before.cell.ensures)) c.before.before.item-p.ensures))
 
 returns : tie.Need-returns invariant-loop decreases-loop
 returns c =
     let a = c.before.before.before.before.before.before.args in
-    appends_as (ap (λ (n : ℕ). names_written a.plan.now a.texts.now n a.separator) (sym c.before.loop.invariant.1)) (turn_all c.before.loop.invariant.2 (omega arith))
+    appends_as (ap (λ (n : ℕ). names_written a.plan.now a.texts.now n a.separator) (sym c.before.loop-d.invariant.1)) (turn_all c.before.loop-d.invariant.2 (omega arith))
 
-pub items-spec : {M : Type 1} → statement M
-items-spec =
+pub items_spec : {M : Type 1} → statement M
+items_spec =
     tie.close
     (tie.spec
     invariant-loop

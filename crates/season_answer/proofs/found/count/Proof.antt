@@ -7,10 +7,10 @@ use borrow.Author.Rules.{rules}
 use Rattle.season_answer.proofs.found.count.Statement.{statement}
 use Rattle.season_answer.proofs.found.count.Tie as tie
 
-returns : tie.Need-returns
-returns c = (simp (lt-ltb (get_or c.before.before.before.args.plan.now (1 + 0) 0) 64 (omega arith)) c.before.cell.ensures, omega arith)
+returns : tie.Need-returns-then-n-lt-LIMIT
+returns c = (simp (lt-ltb (get_or c.before.before.before.args.plan.now (1 + 0) 0) 64 (omega arith)) c.before.cell-n.ensures, omega arith)
 
-returns-2 : tie.Need-returns-2
+returns-2 : tie.Need-returns
 returns-2 c = (simp (le-ltb (get_or c.before.before.before.args.plan.now (1 + 0) 0) 64 (omega arith)), omega arith)
 
 pub count_spec : {M : Type 1} → statement M

@@ -12,23 +12,23 @@ use Rattle.season_answer.specs.FieldsLaws.{Turn, turn_none, turn_more, turn_all}
 use Rattle.season_answer.proofs.item_fields.blanks.Statement.{statement}
 use Rattle.season_answer.proofs.item_fields.blanks.Tie as tie
 
-abbrev invariant-loop : tie.invariant-loop
+abbrev invariant-loop : tie.invariant-loop-d
 invariant-loop plan separator out₀ o n p₀ d₀ out p d = (length out ≡ length out₀) × (n ≡ item_count plan) × Turn (λ (k : ℕ). nothing_written separator) n out₀ out o p d
 
-abbrev decreases-loop : tie.decreases-loop
+abbrev decreases-loop : tie.decreases-loop-d
 decreases-loop plan separator out₀ o n p₀ d₀ out p d = n - d
 
-loop-holds : tie.Need-loop-init invariant-loop decreases-loop
-loop-holds c = (search rules, c.count.ensures.0, turn_none _ _ _ _)
+loop-holds : tie.Need-loop-d-init invariant-loop decreases-loop
+loop-holds c = (search rules, c.count-n.ensures.0, turn_none _ _ _ _)
 
-loop-again : tie.Need-loop-preserved invariant-loop decreases-loop
-loop-again c = (search rules, c.before.before.before.before.before.loop.invariant.1, turn_more c.before.before.before.before.before.loop.invariant.2 (omega arith) c.before.before.nothing.ensures)
+loop-again : tie.Need-loop-d-preserved invariant-loop decreases-loop
+loop-again c = (search rules, c.before.before.before.before.before.loop-d.invariant.1, turn_more c.before.before.before.before.before.loop-d.invariant.2 (omega arith) c.before.before.nothing-p.ensures)
 
 returns : tie.Need-returns invariant-loop decreases-loop
-returns c = appends_as (ap (λ (n : ℕ). blanks_written n c.before.before.before.before.before.args.separator) (sym c.before.loop.invariant.1)) (turn_all c.before.loop.invariant.2 (omega arith))
+returns c = appends_as (ap (λ (n : ℕ). blanks_written n c.before.before.before.before.before.args.separator) (sym c.before.loop-d.invariant.1)) (turn_all c.before.loop-d.invariant.2 (omega arith))
 
-pub blanks-spec : {M : Type 1} → statement M
-blanks-spec =
+pub blanks_spec : {M : Type 1} → statement M
+blanks_spec =
     tie.close
     (tie.spec
     invariant-loop

@@ -5,8 +5,8 @@ use borrow.Author.Rules.{rules}
 use Rattle.season_answer.proofs.item_fields.is_empty.Statement.{statement}
 use Rattle.season_answer.proofs.item_fields.is_empty.Tie as tie
 
-returns-5 : tie.Need-returns-5
-returns-5 c = sym (ap no_bytes c.before.before.s.given.1)
+returns-5 : tie.Need-returns-in-Text
+returns-5 c = sym (ap no_bytes c.before.before.s-1.given.1)
 
 pub is_empty_spec : {M : Type 1} → statement M
 is_empty_spec =

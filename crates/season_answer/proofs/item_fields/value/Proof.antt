@@ -12,19 +12,19 @@ use borrow.Author.Rules.{rules}
 use Rattle.season_answer.proofs.item_fields.value.Statement.{statement}
 use Rattle.season_answer.proofs.item_fields.value.Tie as tie
 
-returns : tie.Need-returns
+returns : tie.Need-returns-then-is_empty_text
 returns c =
     let a = c.before.before.before.before.before.before.before.before.args in
-    λ h. field_empty a.separator (meaning_v a.texts.now a.v) (sym (c.before.before.before.before.before.is-empty-text.ensures a.texts.now) ∙ c.before.before.before.before.if1.true) c.before.before.empty_text.ensures
+    λ h. field_empty a.separator (meaning_v a.texts.now a.v) (sym (c.before.before.before.before.before.is_empty_text.ensures a.texts.now) ∙ c.before.before.before.before.if-is_empty_text.true) c.before.before.empty_text.ensures
 
-returns-2 : tie.Need-returns-2
+returns-2 : tie.Need-returns
 returns-2 c =
     let a = c.before.before.before.before.before.before.before.before.before.before.before.before.args in
-    let w = c.before.before.before.before.before.before.value.ensures in
+    let w = c.before.before.before.before.before.before.value-k.ensures in
     let same = w.same in
     λ h. (
     let (is, k) = in_front w (omega arith) in
-    field_full a.separator (meaning_v a.texts.now a.v) (sym (c.before.before.before.before.before.before.before.before.before.is-empty-text.ensures a.texts.now) ∙ c.before.before.before.before.before.before.before.before.if1.false)
+    field_full a.separator (meaning_v a.texts.now a.v) (sym (c.before.before.before.before.before.before.before.before.before.is_empty_text.ensures a.texts.now) ∙ c.before.before.before.before.before.before.before.before.if-is_empty_text.false)
     (appends_as (ap (λ (u : List ℕ). field_written a.separator u) (sym is)) (c.before.before.first.ensures (omega arith)))
     )
 

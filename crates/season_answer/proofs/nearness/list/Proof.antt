@@ -4,14 +4,14 @@ use Prim.Native.Nat.{◌-◌}
 use Rattle.season_answer.proofs.nearness.list.Statement.{statement}
 use Rattle.season_answer.proofs.nearness.list.Tie as tie
 
-abbrev invariant-loop : tie.invariant-loop
+abbrev invariant-loop : tie.invariant-loop-d
 invariant-loop plan texts n d₀ d = Unit {0}
 
-abbrev decreases-loop : tie.decreases-loop
+abbrev decreases-loop : tie.decreases-loop-d
 decreases-loop plan texts n d₀ d = n - d
 
-pub list-spec : {M : Type 1} → statement M
-list-spec =
+pub list_spec : {M : Type 1} → statement M
+list_spec =
     tie.close
     (tie.spec
     invariant-loop

@@ -11,36 +11,36 @@ use Rattle.season_answer.specs.ColumnsLaws.{first_past, first_here, first_later,
 use Rattle.season_answer.proofs.places.first_with.Statement.{statement}
 use Rattle.season_answer.proofs.places.first_with.Tie as tie
 
-abbrev invariant-loop : tie.invariant-loop
+abbrev invariant-loop : tie.invariant-loop-j
 invariant-loop columns i c j₀ j = (j ≤ i) × (first_from (λ (k : ℕ). eqb (get_or columns k 0) c) j (i - j) ≡ first_from (λ (k : ℕ). eqb (get_or columns k 0) c) 0 i)
 
-abbrev decreases-loop : tie.decreases-loop
+abbrev decreases-loop : tie.decreases-loop-j
 decreases-loop columns i c j₀ j = i - j
 
-loop-holds : tie.Need-loop-init invariant-loop decreases-loop
+loop-holds : tie.Need-loop-j-init invariant-loop decreases-loop
 loop-holds c = let a = c.before.args in (omega arith, ap (λ (k : ℕ). first_from (λ (j : ℕ). eqb (get_or a.columns.now j 0) a.c) 0 k) (none_off a.i))
 
-returns : tie.Need-returns invariant-loop decreases-loop
+returns : tie.Need-returns-then-cell-c invariant-loop decreases-loop
 returns c =
     let a = c.before.before.before.before.before.args in
-    let l = c.before.before.before.loop in
-    sym (first_here (λ (k : ℕ). eqb (get_or a.columns.now k 0) a.c) l.j a.i (omega arith) (eq-eqb _ _ (sym c.before.cell.ensures ∙ c.if1.true))) ∙ l.invariant.1
+    let l = c.before.before.before.loop-j in
+    sym (first_here (λ (k : ℕ). eqb (get_or a.columns.now k 0) a.c) l.j a.i (omega arith) (eq-eqb _ _ (sym c.before.cell.ensures ∙ c.if-cell-c.true))) ∙ l.invariant.1
 
-loop-again : tie.Need-loop-preserved invariant-loop decreases-loop
+loop-again : tie.Need-loop-j-preserved invariant-loop decreases-loop
 loop-again c =
     let a = c.before.before.before.before.before.args in
-    let l = c.before.before.before.loop in
-    (omega arith, sym (first_later (λ (k : ℕ). eqb (get_or a.columns.now k 0) a.c) l.j a.i (omega arith) (ne_eqb _ _ (λ e. c.if1.false (c.before.cell.ensures ∙ e)))) ∙ l.invariant.1)
+    let l = c.before.before.before.loop-j in
+    (omega arith, sym (first_later (λ (k : ℕ). eqb (get_or a.columns.now k 0) a.c) l.j a.i (omega arith) (ne_eqb _ _ (λ e. c.if-cell-c.false (c.before.cell.ensures ∙ e)))) ∙ l.invariant.1)
 
-returns-2 : tie.Need-returns-2 invariant-loop decreases-loop
+returns-2 : tie.Need-returns invariant-loop decreases-loop
 returns-2 c =
     let a = c.before.before.before.args in
-    let l = c.before.loop in
+    let l = c.before.loop-j in
     let all : a.i ≡ l.j = omega arith in
     all ∙ sym (first_past (λ (k : ℕ). eqb (get_or a.columns.now k 0) a.c) l.j a.i (omega arith)) ∙ l.invariant.1
 
-pub first-with-spec : {M : Type 1} → statement M
-first-with-spec =
+pub first_with_spec : {M : Type 1} → statement M
+first_with_spec =
     tie.close
     (tie.spec
     invariant-loop

@@ -11,11 +11,11 @@ use Rattle.season_answer.proofs.places.read_one.Tie as tie
 returns : tie.Need-returns
 returns c =
     let a = c.before.before.before.before.before.before.before.before.before.before.before.before.before.args in
-    let c-is = c.before.before.before.before.before.before.stands_for.ensures ∙ ap (λ (w : List ℕ). stands_for a.plan.now a.texts.now w) c.before.before.before.before.before.before.before.field.ensures in
-    (c.before.before.before.before.is-well.ensures ∙ ap (λ (x : ℕ). may_stand a.columns.now a.i x) c-is, c.before.before.put-cell.ensures ∙ ap (λ (x : ℕ). set a.columns.now a.i x) c-is)
+    let c-is = c.before.before.before.before.before.before.stands_for-c.ensures ∙ ap (λ (w : List ℕ). stands_for a.plan.now a.texts.now w) c.before.before.before.before.before.before.before.field-name.ensures in
+    (c.before.before.before.before.is_well-well.ensures ∙ ap (λ (x : ℕ). may_stand a.columns-1.now a.i x) c-is, c.before.before.put_cell.ensures ∙ ap (λ (x : ℕ). set a.columns-1.now a.i x) c-is)
 
-pub read-one-spec : {M : Type 1} → statement M
-read-one-spec =
+pub read_one_spec : {M : Type 1} → statement M
+read_one_spec =
     tie.close
     (tie.spec
     (λ c κs. search rules) (λ c κs. search rules) (λ c κs. search rules) (λ c κs. search rules) (λ c. search rules)

@@ -5,7 +5,7 @@ use Rattle.season_answer.proofs.room.empty_text.Statement.{statement}
 use Rattle.season_answer.proofs.room.empty_text.Tie as tie
 
 returns : tie.Need-returns
-returns c = append_then c.before.before.before.before.before.before.quoted.ensures c.before.before.byte.ensures
+returns c = append_then c.before.before.before.before.before.before.quoted-p.ensures c.before.before.byte.ensures
 
-pub empty-text-spec : {M : Type 1} → statement M
-empty-text-spec = tie.close (tie.spec (λ c. search rules) (λ c κs. search rules) (λ c κs. search rules) (λ c. search rules) returns)
+pub empty_text_spec : {M : Type 1} → statement M
+empty_text_spec = tie.close (tie.spec (λ c. search rules) (λ c κs. search rules) (λ c κs. search rules) (λ c. search rules) returns)

@@ -5,13 +5,13 @@ use borrow.Author.Rules.{rules}
 use Rattle.season_answer.proofs.room.first.Statement.{statement}
 use Rattle.season_answer.proofs.room.first.Tie as tie
 
-returns : tie.Need-returns
+returns : tie.Need-returns-then-b-k
 returns c = λ h. absurd (omega arith)
 
-slice-aggregate-field : tie.Need-slice-aggregate-field
+slice-aggregate-field : tie.Need-slice_bounds-field-end
 slice-aggregate-field c = simp length-take (omega arith)
 
-returns-2 : tie.Need-returns-2
+returns-2 : tie.Need-returns
 returns-2 c = λ h. c.before.before.field.ensures
 
 pub first_spec : {M : Type 1} → statement M

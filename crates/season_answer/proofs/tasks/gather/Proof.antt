@@ -10,29 +10,29 @@ use Rattle.season_answer.specs.FieldsLaws.{reached_none, reached_at, reached_all
 use Rattle.season_answer.proofs.tasks.gather.Statement.{statement}
 use Rattle.season_answer.proofs.tasks.gather.Tie as tie
 
-abbrev invariant-loop : tie.invariant-loop
+abbrev invariant-loop : tie.invariant-loop-t
 invariant-loop plan texts state names₀ p₀ t₀ names p t = (length names ≡ length names₀) × (t ≤ 32) × (2080 ≤ length names₀ → Appends names₀ names 0 p (reached_names plan texts state t))
 
-abbrev decreases-loop : tie.decreases-loop
+abbrev decreases-loop : tie.decreases-loop-t
 decreases-loop plan texts state names₀ p₀ t₀ names p t = 32 - t
 
-loop-holds : tie.Need-loop-init invariant-loop decreases-loop
-loop-holds c = let a = c.before.before.before.before.args in (search rules, omega arith, λ h. reached_none a.plan.now a.texts.now a.state.now a.names.now)
+loop-holds : tie.Need-loop-t-init invariant-loop decreases-loop
+loop-holds c = let a = c.before.before.before.before.args in (search rules, omega arith, λ h. reached_none a.plan.now a.texts.now a.state.now a.names-1.now)
 
-loop-again : tie.Need-loop-preserved invariant-loop decreases-loop
+loop-again : tie.Need-loop-t-preserved invariant-loop decreases-loop
 loop-again c =
     let a = c.before.before.before.before.before.before.before.before.before.before.args in
-    let l = c.before.before.before.before.before.loop in
-    (search rules, omega arith, λ h. c.before.before.next.ensures a.names.now (reached_at a.plan.now a.texts.now a.state.now l.t (omega arith) h (l.invariant.2 h)) (l.invariant.2 h))
+    let l = c.before.before.before.before.before.loop-t in
+    (search rules, omega arith, λ h. c.before.before.next-p.ensures a.names-1.now (reached_at a.plan.now a.texts.now a.state.now l.t (omega arith) h (l.invariant.2 h)) (l.invariant.2 h))
 
 returns : tie.Need-returns invariant-loop decreases-loop
 returns c =
     let a = c.before.before.before.before.before.before.args in
-    let l = c.before.loop in
+    let l = c.before.loop-t in
     λ h. reached_all a.plan.now a.texts.now a.state.now l.t (omega arith) (l.invariant.2 h)
 
-pub gather-spec : {M : Type 1} → statement M
-gather-spec =
+pub gather_spec : {M : Type 1} → statement M
+gather_spec =
     tie.close
     (tie.spec
     invariant-loop

@@ -13,27 +13,27 @@ use borrow.Author.Rules.{rules}
 use Rattle.season_answer.proofs.tasks.next.Statement.{statement}
 use Rattle.season_answer.proofs.tasks.next.Tie as tie
 
-returns : tie.Need-returns
+returns : tie.Need-returns-then-not-is_reached
 returns c =
     let a = c.before.before.before.before.before.before.args in
-    λ out e h. not_reached a.plan.now a.texts.now a.state.now a.t c.before.is_reached.ensures (not_true _ c.if1.true) h
+    λ out e h. not_reached a.plan.now a.texts.now a.state.now a.t c.before.is_reached.ensures (not_true _ c.if-not-is_reached.true-raw) h
 
-returns-2 : tie.Need-returns-2
+returns-2 : tie.Need-returns-then-o-eq0
 returns-2 c =
     let a = c.before.before.before.before.before.before.before.before.before.before.before.before.args in
     λ out e h.
-    reached_first a.plan.now a.texts.now a.state.now a.t c.before.before.before.before.before.before.before.is_reached.ensures (not_false _ c.before.before.before.before.before.before.if1.false) (sym e ∙ c.before.before.before.before.if2.true)
-    (append_first (sym e ∙ c.before.before.before.before.if2.true) h (appends_as (ap (λ (k : ℕ). text_at_fn a.texts.now k) (sym c.before.before.before.before.before.cell.ensures)) c.before.before.name.ensures))
+    reached_first a.plan.now a.texts.now a.state.now a.t c.before.before.before.before.before.before.before.is_reached.ensures (not_false _ c.before.before.before.before.before.before.if-not-is_reached.false-raw) (sym e ∙ c.before.before.before.before.if-o-eq0.true-raw)
+    (append_first (sym e ∙ c.before.before.before.before.if-o-eq0.true-raw) h (appends_as (ap (λ (k : ℕ). text_at_fn a.texts.now k) (sym c.before.before.before.before.before.cell-h.ensures)) c.before.before.name.ensures))
 
-returns-3 : tie.Need-returns-3
+returns-3 : tie.Need-returns
 returns-3 c =
     let a = c.before.before.before.before.before.before.before.before.before.before.before.before.before.before.before.before.before.args in
     λ out e h.
-    reached_more a.plan.now a.texts.now a.state.now a.t c.before.before.before.before.before.before.before.before.before.before.before.before.is_reached.ensures (not_false _ c.before.before.before.before.before.before.before.before.before.before.before.if1.false) (λ z. c.before.before.before.before.before.before.before.before.before.if2.false (e ∙ z))
-    (append_then (append_then h c.before.before.before.before.before.before.word.ensures) (appends_as (ap (λ (k : ℕ). text_at_fn a.texts.now k) (sym c.before.before.before.before.before.before.before.before.before.before.cell.ensures)) c.before.before.name2.ensures))
+    reached_more a.plan.now a.texts.now a.state.now a.t c.before.before.before.before.before.before.before.before.before.before.before.before.is_reached.ensures (not_false _ c.before.before.before.before.before.before.before.before.before.before.before.if-not-is_reached.false-raw) (λ z. c.before.before.before.before.before.before.before.before.before.if-o-eq0.false-raw (e ∙ z))
+    (append_then (append_then h c.before.before.before.before.before.before.word-p.ensures) (appends_as (ap (λ (k : ℕ). text_at_fn a.texts.now k) (sym c.before.before.before.before.before.before.before.before.before.before.cell-h.ensures)) c.before.before.name-2.ensures))
 
-pub next-spec : {M : Type 1} → statement M
-next-spec =
+pub next_spec : {M : Type 1} → statement M
+next_spec =
     tie.close
     (tie.spec
     (λ c κs. search rules)

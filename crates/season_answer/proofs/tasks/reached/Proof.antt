@@ -14,13 +14,13 @@ returns : tie.Need-returns
 returns c =
     let a = c.before.before.before.before.before.before.before.before.before.before.before.before.args in
     let long = reached_long a.plan.now a.texts.now a.state.now 32 in
-    let names = c.before.before.before.before.before.before.gather.ensures (omega arith) in
+    let names = c.before.before.before.before.before.before.gather-k.ensures (omega arith) in
     let (is, k) = in_front names (omega arith) in
     let same = names.same in
     appends_as (ap (λ (w : List ℕ). field_written a.separator w) (sym is)) (c.before.before.first.ensures (omega arith))
 
-pub reached-spec : {M : Type 1} → statement M
-reached-spec =
+pub reached_spec : {M : Type 1} → statement M
+reached_spec =
     tie.close
     (tie.spec
     (λ c. search rules) (λ c κs. search rules) (λ c. search rules) (λ c κs. search rules) (λ c. search rules)

@@ -7,23 +7,23 @@ use borrow.Author.Rules.{rules}
 use Rattle.separated.proofs.machine.inside.Statement.{statement}
 use Rattle.separated.proofs.machine.inside.Tie as tie
 
-returns : tie.Need-returns
-returns c = c.to.ensures ∙ sym (ap (λ (k : Kind). step_of Quoted k) c.before.enum_told.given.1)
+returns : tie.Need-returns-in-Quote
+returns c = c.to.ensures ∙ sym (ap (λ (k : Kind). step_of Quoted k) c.before.enum_told-1.given.1)
 
-returns-2 : tie.Need-returns-2
-returns-2 c = c.to2.ensures ∙ sym (ap (λ (k : Kind). step_of Quoted k) c.before.enum-told2.given.1)
+returns-2 : tie.Need-returns-in-Newline
+returns-2 c = c.to-in-Newline.ensures ∙ sym (ap (λ (k : Kind). step_of Quoted k) c.before.enum_told-in-Newline-1.given.1)
 
-returns-3 : tie.Need-returns-3
-returns-3 c = c.to3.ensures ∙ sym (ap (λ (k : Kind). step_of Quoted k) c.before.enum-told3.given.1)
+returns-3 : tie.Need-returns-in-Return
+returns-3 c = c.to-in-Return.ensures ∙ sym (ap (λ (k : Kind). step_of Quoted k) c.before.enum_told-in-Return-1.given.1)
 
-returns-4 : tie.Need-returns-4
-returns-4 c = c.to4.ensures ∙ sym (ap (λ (k : Kind). step_of Quoted k) c.before.enum-told4.given.1)
+returns-4 : tie.Need-returns-in-Separator
+returns-4 c = c.to-in-Separator.ensures ∙ sym (ap (λ (k : Kind). step_of Quoted k) c.before.enum_told-in-Separator-1.given.1)
 
-returns-5 : tie.Need-returns-5
-returns-5 c = c.to5.ensures ∙ sym (ap (λ (k : Kind). step_of Quoted k) c.before.enum-told5.given.1)
+returns-5 : tie.Need-returns-in-Other
+returns-5 c = c.to-in-Other.ensures ∙ sym (ap (λ (k : Kind). step_of Quoted k) c.before.enum_told-in-Other-1.given.1)
 
-pub inside-spec : {M : Type 1} → statement M
-inside-spec =
+pub inside_spec : {M : Type 1} → statement M
+inside_spec =
     tie.close
     (tie.spec
     (λ c. search rules) (λ c κs. search rules) (λ c. search rules) (λ c κs. search rules) (λ c. search rules) (λ c κs. search rules)

@@ -7,15 +7,15 @@ use Rattle.separated.specs.Quotes.{if_then, between}
 use Rattle.separated.proofs.quotes.put.Statement.{statement}
 use Rattle.separated.proofs.quotes.put.Tie as tie
 
-returns : tie.Need-returns
+returns : tie.Need-returns-then-has_special
 returns c =
     let w = c.before.before.before.before.before.before.before.before.args.field.now in
-    appends_as (ap (λ (t : Bool). if_then t (between w) w) (sym c.before.before.before.before.before.has-special.ensures ∙ c.before.before.before.before.if1.true)) c.before.before.quoted.ensures
+    appends_as (ap (λ (t : Bool). if_then t (between w) w) (sym c.before.before.before.before.before.has_special.ensures ∙ c.before.before.before.before.if-has_special.true)) c.before.before.quoted.ensures
 
-returns-2 : tie.Need-returns-2
+returns-2 : tie.Need-returns
 returns-2 c =
     let w = c.before.before.before.before.before.before.before.before.args.field.now in
-    appends_as (ap (λ (t : Bool). if_then t (between w) w) (sym c.before.before.before.before.before.has-special.ensures ∙ c.before.before.before.before.if1.false)) c.before.before.word.ensures
+    appends_as (ap (λ (t : Bool). if_then t (between w) w) (sym c.before.before.before.before.before.has_special.ensures ∙ c.before.before.before.before.if-has_special.false)) c.before.before.word.ensures
 
 pub put_spec : {M : Type 1} → statement M
 put_spec =

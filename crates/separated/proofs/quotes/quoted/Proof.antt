@@ -7,7 +7,7 @@ use Rattle.separated.proofs.quotes.quoted.Tie as tie
 
 returns : tie.Need-returns
 unfolding between
-returns c = append_then (append_then c.before.before.before.before.before.before.before.before.before.before.byte.ensures c.before.before.before.before.before.before.doubled.ensures) c.before.before.byte2.ensures
+returns c = append_then (append_then c.before.before.before.before.before.before.before.before.before.before.byte-p.ensures c.before.before.before.before.before.before.doubled-q.ensures) c.before.before.byte.ensures
 
-pub quoted-spec : {M : Type 1} → statement M
-quoted-spec = tie.close (tie.spec (λ c κs. search rules) (λ c κs. search rules) (λ c κs. search rules) (λ c. search rules) returns)
+pub quoted_spec : {M : Type 1} → statement M
+quoted_spec = tie.close (tie.spec (λ c κs. search rules) (λ c κs. search rules) (λ c κs. search rules) (λ c. search rules) returns)

@@ -8,18 +8,18 @@ use borrow.Author.Rules.{rules}
 use Rattle.separated.proofs.records.end_field.Statement.{statement}
 use Rattle.separated.proofs.records.end_field.Tie as tie
 
-returns : tie.Need-returns
+returns : tie.Need-returns-then-ends-k
 returns c =
     let a = c.before.before.before.args in
-    (simp (le-ltb a.s.fields (length a.ends.now) c.before.if1.true) c.spoilt.ensures, sym (set_out a.ends.now a.s.fields a.s.n (omega arith)))
+    (simp (le-ltb a.s.fields (length a.ends.now) c.before.if-ends-k.true) c.spoilt.ensures, sym (set_out a.ends.now a.s.fields a.s.n (omega arith)))
 
-returns-2 : tie.Need-returns-2
+returns-2 : tie.Need-returns
 returns-2 c =
     let a = c.before.before.args in
     (simp (lt-ltb a.s.fields (length a.ends.now) (omega arith)), refl)
 
-pub end-field-spec : {M : Type 1} → statement M
-end-field-spec =
+pub end_field_spec : {M : Type 1} → statement M
+end_field_spec =
     tie.close
     (tie.spec
     (λ c κs. search rules)

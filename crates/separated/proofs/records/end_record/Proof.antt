@@ -6,7 +6,7 @@ use Rattle.separated.proofs.records.end_record.Statement.{statement}
 use Rattle.separated.proofs.records.end_record.Tie as tie
 
 returns : tie.Need-returns
-returns c = (ap done_with c.before.before.end-field.ensures.0, c.before.before.end-field.ensures.1)
+returns c = (ap done_with c.before.before.end_field-t.ensures.0, c.before.before.end_field-t.ensures.1)
 
-pub end-record-spec : {M : Type 1} → statement M
-end-record-spec = tie.close (tie.spec (λ c κs. search rules) (λ c. search rules) returns)
+pub end_record_spec : {M : Type 1} → statement M
+end_record_spec = tie.close (tie.spec (λ c κs. search rules) (λ c. search rules) returns)

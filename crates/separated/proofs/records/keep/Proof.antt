@@ -8,12 +8,12 @@ use borrow.Author.Rules.{rules}
 use Rattle.separated.proofs.records.keep.Statement.{statement}
 use Rattle.separated.proofs.records.keep.Tie as tie
 
-returns : tie.Need-returns
+returns : tie.Need-returns-then-kept-n
 returns c =
     let a = c.before.before.before.args in
-    (simp (le-ltb a.s.n (length a.kept.now) c.before.if1.true) c.spoilt.ensures, sym (set_out a.kept.now a.s.n a.b (omega arith)))
+    (simp (le-ltb a.s.n (length a.kept.now) c.before.if-kept-n.true) c.spoilt.ensures, sym (set_out a.kept.now a.s.n a.b (omega arith)))
 
-returns-2 : tie.Need-returns-2
+returns-2 : tie.Need-returns
 returns-2 c =
     let a = c.before.before.args in
     (simp (lt-ltb a.s.n (length a.kept.now) (omega arith)), refl)

@@ -4,11 +4,11 @@ use borrow.Author.Rules.{rules}
 use Rattle.separated.proofs.records.lines_with.Statement.{statement}
 use Rattle.separated.proofs.records.lines_with.Tie as tie
 
-returns : tie.Need-returns
-returns c = simp (eq-eqb c.before.before.args.b 10 c.before.if1.true) c.one_more.ensures
+returns : tie.Need-returns-then-b-eq-NEWLINE
+returns c = simp (eq-eqb c.before.before.args.b 10 c.before.if-b-eq-NEWLINE.true) c.one_more.ensures
 
-returns-2 : tie.Need-returns-2
-returns-2 c = simp (ne_eqb c.before.args.b 10 c.if1.false)
+returns-2 : tie.Need-returns
+returns-2 c = simp (ne_eqb c.before.args.b 10 c.if-b-eq-NEWLINE.false)
 
-pub lines-with-spec : {M : Type 1} → statement M
-lines-with-spec = tie.close (tie.spec (λ c κs. search rules) returns returns-2)
+pub lines_with_spec : {M : Type 1} → statement M
+lines_with_spec = tie.close (tie.spec (λ c κs. search rules) returns returns-2)

@@ -9,5 +9,5 @@ use Rattle.separated.proofs.records.moved.Tie as tie
 returns : tie.Need-returns
 returns c = ap (λ (n : ℕ). in_mode c.before.args.mode n c.before.args.s) c.lines_with.ensures
 
-pub moved-spec : {M : Type 1} → statement M
-moved-spec = tie.close (tie.spec (λ c κs. search rules) returns)
+pub moved_spec : {M : Type 1} → statement M
+moved_spec = tie.close (tie.spec (λ c κs. search rules) returns)

@@ -9,36 +9,36 @@ use borrow.Author.Rules.{rules}
 use Rattle.separated.proofs.records.take.Statement.{statement}
 use Rattle.separated.proofs.records.take.Tie as tie
 
-abbrev invariant-loop : tie.invariant-loop
+abbrev invariant-loop : tie.invariant-loop-at
 invariant-loop chunk from separator kept₀ ends₀ at₀ s₀ kept ends at s =
     (length kept ≡ length kept₀) × (length ends ≡ length ends₀)
     × (read_from separator at₀ (read s₀ kept₀ ends₀) (drop at₀ chunk) ≡ read_from separator at (read s kept ends) (drop at chunk))
 
-abbrev decreases-loop : tie.decreases-loop
+abbrev decreases-loop : tie.decreases-loop-at
 decreases-loop chunk from separator kept₀ ends₀ at₀ s₀ kept ends at s = length chunk - at
 
-loop-holds : tie.Need-loop-init invariant-loop decreases-loop
+loop-holds : tie.Need-loop-at-init invariant-loop decreases-loop
 loop-holds c = (search rules, search rules, refl)
 
-returns : tie.Need-returns invariant-loop decreases-loop
+returns : tie.Need-returns-then-s invariant-loop decreases-loop
 returns c =
     let a = c.before.before.before.before.before.before.before.before.before.before.before.before.before.before.args in
-    let l = c.before.before.before.before.before.before.before.before.before.before.loop in
-    let more : l.at < length a.chunk.now = c.before.before.before.before.before.before.before.before.before.loop-test.true in
-    sym (l.invariant.2 ∙ read_ended a.separator l.at (read l.s l.auto l.ends) a.chunk.now more c.before.before.before.before.before.advance.ensures c.if1.true)
+    let l = c.before.before.before.before.before.before.before.before.before.before.loop-at in
+    let more : l.at < length a.chunk.now = c.before.before.before.before.before.before.before.before.before.loop-at-test.true in
+    sym (l.invariant.2 ∙ read_ended a.separator l.at (read l.s l.auto l.ends-1) a.chunk.now more c.before.before.before.before.before.advance-s.ensures c.if-s.true)
 
-loop-again : tie.Need-loop-preserved invariant-loop decreases-loop
+loop-again : tie.Need-loop-at-preserved invariant-loop decreases-loop
 loop-again c =
     let a = c.before.before.before.before.before.before.before.before.before.before.before.before.before.before.args in
-    let l = c.before.before.before.before.before.before.before.before.before.before.loop in
-    let more : l.at < length a.chunk.now = c.before.before.before.before.before.before.before.before.before.loop-test.true in
-    (search rules, search rules, l.invariant.2 ∙ read_more a.separator l.at (read l.s l.auto l.ends) a.chunk.now more c.before.before.before.before.before.advance.ensures c.if1.false)
+    let l = c.before.before.before.before.before.before.before.before.before.before.loop-at in
+    let more : l.at < length a.chunk.now = c.before.before.before.before.before.before.before.before.before.loop-at-test.true in
+    (search rules, search rules, l.invariant.2 ∙ read_more a.separator l.at (read l.s l.auto l.ends-1) a.chunk.now more c.before.before.before.before.before.advance-s.ensures c.if-s.false)
 
-returns-2 : tie.Need-returns-2 invariant-loop decreases-loop
+returns-2 : tie.Need-returns invariant-loop decreases-loop
 returns-2 c =
     let a = c.before.before.before.before.before.args in
-    let l = c.before.loop in
-    sym (l.invariant.2 ∙ all_read a.separator l.at (read l.s l.auto l.ends) a.chunk.now (omega arith))
+    let l = c.before.loop-at in
+    sym (l.invariant.2 ∙ all_read a.separator l.at (read l.s l.auto l.ends-1) a.chunk.now (omega arith))
 
 pub take_spec : {M : Type 1} → statement M
 take_spec =

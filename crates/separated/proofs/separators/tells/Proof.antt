@@ -6,14 +6,14 @@ use borrow.Author.Rules.{rules}
 use Rattle.separated.proofs.separators.tells.Statement.{statement}
 use Rattle.separated.proofs.separators.tells.Tie as tie
 
-returns-2 : tie.Need-returns-2
-returns-2 c = told_outside c.before.before.args.b c.before.if1.false (simp (eq-eqb _ _ c.match.keys1))
+returns-2 : tie.Need-returns-in-9
+returns-2 c = told_outside c.before.before.args.b c.before.if-inside.false (simp (eq-eqb _ _ c.in-9.keys1))
 
-returns-3 : tie.Need-returns-3
-returns-3 c = told_outside c.before.before.args.b c.before.if1.false (simp (ne_eqb c.before.before.args.b 9 (λ e. omega arith), eq-eqb _ _ c.match.keys2))
+returns-3 : tie.Need-returns-in-10
+returns-3 c = told_outside c.before.before.args.b c.before.if-inside.false (simp (ne_eqb c.before.before.args.b 9 (λ e. omega arith), eq-eqb _ _ c.in-10.keys2))
 
-returns-4 : tie.Need-returns-4
-returns-4 c = told_outside c.before.before.args.b c.before.if1.false (simp (ne_eqb _ _ c.match.rest.0.1, ne_eqb _ _ c.match.rest.1))
+returns-4 : tie.Need-returns-in_default
+returns-4 c = told_outside c.before.before.args.b c.before.if-inside.false (simp (ne_eqb _ _ c.in_default.rest.0.1, ne_eqb _ _ c.in_default.rest.1))
 
-pub tells-spec : {M : Type 1} → statement M
-tells-spec = tie.close (tie.spec (λ c. search rules) returns-2 returns-3 returns-4)
+pub tells_spec : {M : Type 1} → statement M
+tells_spec = tie.close (tie.spec (λ c. search rules) returns-2 returns-3 returns-4)

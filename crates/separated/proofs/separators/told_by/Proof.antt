@@ -9,37 +9,37 @@ use Rattle.separated.specs.RecordsLaws.{told_passed, told_here, told_never}
 use Rattle.separated.proofs.separators.told_by.Statement.{statement}
 use Rattle.separated.proofs.separators.told_by.Tie as tie
 
-abbrev invariant-loop : tie.invariant-loop
+abbrev invariant-loop : tie.invariant-loop-i
 invariant-loop chunk i₀ inside₀ i inside = told_from inside (drop i chunk) ≡ told_from false chunk
 
-abbrev decreases-loop : tie.decreases-loop
+abbrev decreases-loop : tie.decreases-loop-i
 decreases-loop chunk i₀ inside₀ i inside = length chunk - i
 
-loop-holds : tie.Need-loop-init invariant-loop decreases-loop
+loop-holds : tie.Need-loop-i-init invariant-loop decreases-loop
 loop-holds c = refl
 
-returns : tie.Need-returns invariant-loop decreases-loop
+returns : tie.Need-returns-then-told-ne-UNTOLD invariant-loop decreases-loop
 returns c =
-    let l = c.before.before.before.before.before.loop in
+    let l = c.before.before.before.before.before.loop-i in
     let w = c.before.before.before.before.before.before.before.args.chunk.now in
     let more : l.i < length w = search rules in
-    sym (told_here l.inside w l.i more c.before.before.turned.ensures c.before.tells.ensures c.if1.true) ∙ l.invariant
+    sym (told_here l.inside w l.i more c.before.before.turned-inside.ensures c.before.tells-told.ensures c.if-told-ne-UNTOLD.true) ∙ l.invariant
 
-loop-again : tie.Need-loop-preserved invariant-loop decreases-loop
+loop-again : tie.Need-loop-i-preserved invariant-loop decreases-loop
 loop-again c =
-    let l = c.before.before.before.before.before.loop in
+    let l = c.before.before.before.before.before.loop-i in
     let w = c.before.before.before.before.before.before.before.args.chunk.now in
     let more : l.i < length w = search rules in
-    sym (told_passed l.inside w l.i more c.before.before.turned.ensures c.before.tells.ensures c.if1.false) ∙ l.invariant
+    sym (told_passed l.inside w l.i more c.before.before.turned-inside.ensures c.before.tells-told.ensures c.if-told-ne-UNTOLD.false) ∙ l.invariant
 
-returns-2 : tie.Need-returns-2 invariant-loop decreases-loop
+returns-2 : tie.Need-returns invariant-loop decreases-loop
 returns-2 c =
-    let l = c.before.loop in
-    let past : told_from l.inside (drop l.i c.before.before.before.args.chunk.now) ≡ 44 = rw (drop_of_length-le c.before.before.before.args.chunk.now c.loop-test.false) (told_never l.inside) in
+    let l = c.before.loop-i in
+    let past : told_from l.inside (drop l.i c.before.before.before.args.chunk.now) ≡ 44 = rw (drop_of_length-le c.before.before.before.args.chunk.now c.loop-i-test.false) (told_never l.inside) in
     sym past ∙ l.invariant
 
-pub told-by-spec : {M : Type 1} → statement M
-told-by-spec =
+pub told_by_spec : {M : Type 1} → statement M
+told_by_spec =
     tie.close
     (tie.spec
     invariant-loop

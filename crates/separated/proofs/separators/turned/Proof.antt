@@ -7,14 +7,14 @@ use Rattle.separated.specs.RecordsLaws.{turned_quote}
 use Rattle.separated.proofs.separators.turned.Statement.{statement}
 use Rattle.separated.proofs.separators.turned.Tie as tie
 
-returns : tie.Need-returns
-returns c = simp (ne_eqb _ _ c.if1.true)
+returns : tie.Need-returns-then-b-ne-QUOTE
+returns c = simp (ne_eqb _ _ c.if-b-ne-QUOTE.true)
 
-returns-2 : tie.Need-returns-2
-returns-2 c = turned_quote c.before.before.args.inside c.before.if1.false (sym (ap (λ (i : Bool). turned true i) c.if2.true))
+returns-2 : tie.Need-returns-then-inside
+returns-2 c = turned_quote c.before.before.args.inside c.before.if-b-ne-QUOTE.false (sym (ap (λ (i : Bool). turned true i) c.if-inside.true))
 
-returns-3 : tie.Need-returns-3
-returns-3 c = turned_quote c.before.before.args.inside c.before.if1.false (sym (ap (λ (i : Bool). turned true i) c.if2.false))
+returns-3 : tie.Need-returns
+returns-3 c = turned_quote c.before.before.args.inside c.before.if-b-ne-QUOTE.false (sym (ap (λ (i : Bool). turned true i) c.if-inside.false))
 
-pub turned-spec : {M : Type 1} → statement M
-turned-spec = tie.close (tie.spec returns returns-2 returns-3)
+pub turned_spec : {M : Type 1} → statement M
+turned_spec = tie.close (tie.spec returns returns-2 returns-3)

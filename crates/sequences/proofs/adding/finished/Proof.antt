@@ -4,11 +4,11 @@ use borrow.Author.Rules.{rules}
 use Rattle.sequences.proofs.adding.finished.Statement.{statement}
 use Rattle.sequences.proofs.adding.finished.Tie as tie
 
-returns : tie.Need-returns
-returns c = rw c.before.if1.true c.integer.ensures
+returns : tie.Need-returns-then-t
+returns c = rw c.before.if-t.true c.integer.ensures
 
-returns-2 : tie.Need-returns-2
-returns-2 c = rw (c.before.before.if1.false, c.before.if2.true) c.real.ensures
+returns-2 : tie.Need-returns-then-t-2
+returns-2 c = rw (c.before.before.if-t.false, c.before.if-t-2.true) c.real.ensures
 
-pub finished-spec : {M : Type 1} → statement M
-finished-spec = tie.close (tie.spec (λ c κs. search rules) returns (λ c κs. search rules) returns-2 (λ c. search rules))
+pub finished_spec : {M : Type 1} → statement M
+finished_spec = tie.close (tie.spec (λ c κs. search rules) returns (λ c κs. search rules) returns-2 (λ c. search rules))

@@ -8,17 +8,17 @@ use borrow.Author.Rules.{rules}
 use Rattle.sequences.proofs.counting.nth.Statement.{statement}
 use Rattle.sequences.proofs.counting.nth.Tie as tie
 
-returns : tie.Need-returns
+returns : tie.Need-returns-then-b
 returns c = λ bs. let a = c.before.before.before.before.before.args in
     means bs section-11.nth (a.a ∷ a.b ∷ []) c.single.result tt
-    (single_is bs c.single.result c.single.ensures ∙ nth_list bs a.a a.b c.before.nth_of.result c.before.before.before.if1.true c.before.before.scalar-of.ensures (c.before.nth_of.ensures bs))
+    (single_is bs c.single.result c.single.ensures ∙ nth_list bs a.a a.b c.before.nth_of.result c.before.before.before.if-b.true c.before.before.scalar_of.ensures (c.before.nth_of.ensures bs))
 
-returns-2 : tie.Need-returns-2
+returns-2 : tie.Need-returns
 returns-2 c = λ bs. let a = c.before.before.before.args in
-    means bs section-11.nth (a.a ∷ a.b ∷ []) c.single2.result tt (single_is bs c.single2.result c.single2.ensures ∙ nth_scalar bs a.a a.b c.before.if1.false)
+    means bs section-11.nth (a.a ∷ a.b ∷ []) c.single-2.result tt (single_is bs c.single-2.result c.single-2.ensures ∙ nth_scalar bs a.a a.b c.before.if-b.false)
 
-pub nth-spec : {M : Type 1} → statement M
-nth-spec =
+pub nth_spec : {M : Type 1} → statement M
+nth_spec =
     tie.close
     (tie.spec
     (λ c κs. search rules) (λ c κs. search rules) (λ c κs. search rules)

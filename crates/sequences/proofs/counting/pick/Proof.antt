@@ -14,40 +14,40 @@ use borrow.Author.Rules.{rules}
 use Rattle.sequences.proofs.counting.pick.Statement.{statement}
 use Rattle.sequences.proofs.counting.pick.Tie as tie
 
-returns : tie.Need-returns
+returns : tie.Need-returns-then-z-lt1
 returns c = λ bs.
     let z = c.before.before.args.n.z in
     let f : SFits w32 z = search rules in
-    let e : lt_z z (pos 1) ≡ true = simp (to_z-of_z f) at c.if1.true in
+    let e : lt_z z (pos 1) ≡ true = simp (to_z-of_z f) at c.if-z-lt1.true in
     low (meaning_l bs c.before.before.args.l) z e
 
-cast-k : tie.Need-overflow-cast-k
+cast-k : tie.Need-overflow_cast-k
 cast-k c =
     let z = c.before.before.args.n.z in
     let f : SFits w32 z = search rules in
-    let e : lt_z z (pos 1) ≡ false = simp (to_z-of_z f) at c.if1.false in
+    let e : lt_z z (pos 1) ≡ false = simp (to_z-of_z f) at c.if-z-lt1.false in
     simp (to_z-of_z f) (not_negative z e, Fits-nat_abs tt f)
 
-sub-i : tie.Need-overflow-sub-i
+sub-i : tie.Need-overflow_sub-i
 sub-i c =
     let z = c.before.before.args.n.z in
     let f : SFits w32 z = search rules in
-    let e : lt_z z (pos 1) ≡ false = simp (to_z-of_z f) at c.if1.false in
+    let e : lt_z z (pos 1) ≡ false = simp (to_z-of_z f) at c.if-z-lt1.false in
     simp (to_z-of_z f) (at_least_one z e)
 
-returns-2 : tie.Need-returns-2
+returns-2 : tie.Need-returns-then-i-size
 returns-2 c = λ bs.
     let z = c.before.before.before.before.before.args.n.z in
     let f : SFits w32 z = search rules in
-    let e : lt_z z (pos 1) ≡ false = simp (to_z-of_z f) at c.before.before.before.if1.false in
-    picked bs c.before.before.before.before.before.args.l z e (ap (λ (y : ℤ). nat_abs y - 1) (to_z-of_z f)) (omega (arith, c.before.before.size.ensures.0, c.before.if2.true)) c.get.ensures
+    let e : lt_z z (pos 1) ≡ false = simp (to_z-of_z f) at c.before.before.before.if-z-lt1.false in
+    picked bs c.before.before.before.before.before.args.l z e (ap (λ (y : ℤ). nat_abs y - 1) (to_z-of_z f)) (omega (arith, c.before.before.size.ensures.0, c.before.if-i-size.true)) c.get.ensures
 
-returns-3 : tie.Need-returns-3
+returns-3 : tie.Need-returns
 returns-3 c = λ bs.
     let z = c.before.before.before.before.args.n.z in
     let f : SFits w32 z = search rules in
-    let e : lt_z z (pos 1) ≡ false = simp (to_z-of_z f) at c.before.before.if1.false in
-    beyond bs c.before.before.before.before.args.l z e (ap (λ (y : ℤ). nat_abs y - 1) (to_z-of_z f)) (omega (arith, c.before.size.ensures.0, c.if2.false))
+    let e : lt_z z (pos 1) ≡ false = simp (to_z-of_z f) at c.before.before.if-z-lt1.false in
+    beyond bs c.before.before.before.before.args.l z e (ap (λ (y : ℤ). nat_abs y - 1) (to_z-of_z f)) (omega (arith, c.before.size.ensures.0, c.if-i-size.false))
 
 pub pick_spec : {M : Type 1} → statement M
 pick_spec =

@@ -7,5 +7,5 @@ use Rattle.sequences.proofs.counting.wide_count.Tie as tie
 returns : tie.Need-returns
 returns c = small_is c.args.n c.requires
 
-pub wide-count-spec : {M : Type 1} → statement M
-wide-count-spec = tie.close (tie.spec (λ c. search rules) returns)
+pub wide_count_spec : {M : Type 1} → statement M
+wide_count_spec = tie.close (tie.spec (λ c. search rules) returns)

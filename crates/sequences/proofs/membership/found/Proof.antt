@@ -15,31 +15,31 @@ use borrow.Author.Rules.{rules}
 use Rattle.sequences.proofs.membership.found.Statement.{statement}
 use Rattle.sequences.proofs.membership.found.Tie as tie
 
-abbrev invariant-loop : tie.invariant-loop
+abbrev invariant-loop : tie.invariant-loop-i
 invariant-loop bytes l b n i₀ i =
     (i ≤ n) × (n ≤ 16) × (n ≡ size_of l) × ((k : ℕ) → k < i → missb (meaning_v bytes b) (get_or (meaning_l bytes l) k unknown) ≡ true)
 
-abbrev decreases-loop : tie.decreases-loop
+abbrev decreases-loop : tie.decreases-loop-i
 decreases-loop bytes l b n i₀ i = n - i
 
-loop-holds : tie.Need-loop-init invariant-loop decreases-loop
-loop-holds c = (omega arith, c.size.ensures.1, c.size.ensures.0, below_none _)
+loop-holds : tie.Need-loop-i-init invariant-loop decreases-loop
+loop-holds c = (omega arith, c.size-n.ensures.1, c.size-n.ensures.0, below_none _)
 
-returns : tie.Need-returns invariant-loop decreases-loop
+returns : tie.Need-returns-then-is_level invariant-loop decreases-loop
 returns c =
-    let m = miss_is c.before.before.before.before.before.before.before.before.before.args.bytes.now c.before.before.before.before.before.before.before.before.before.args.l c.before.before.before.before.before.before.before.before.before.args.b c.before.before.before.before.before.before.loop.i c.before.before.before.single.result (omega (arith, c.before.before.before.before.before.before.loop.invariant.2)) c.before.before.before.before.get.ensures c.before.before.before.single.ensures c.before.before.comp.ensures c.before.is-level.ensures in
-    sym (ap not (one_fails (λ k. missb (meaning_v c.before.before.before.before.before.before.before.before.before.args.bytes.now c.before.before.before.before.before.before.before.before.before.args.b) (get_or (meaning_l c.before.before.before.before.before.before.before.before.before.args.bytes.now c.before.before.before.before.before.before.before.before.before.args.l) k unknown)) (length (meaning_l c.before.before.before.before.before.before.before.before.before.args.bytes.now c.before.before.before.before.before.before.before.before.before.args.l)) c.before.before.before.before.before.before.loop.i (omega (arith, size_is c.before.before.before.before.before.before.before.before.before.args.bytes.now c.before.before.before.before.before.before.before.before.before.args.l, c.before.before.before.before.before.before.loop.invariant.2)) (m ∙ ap not c.if1.true)))
+    let m = miss_is c.before.before.before.before.before.before.before.before.before.args.bytes.now c.before.before.before.before.before.before.before.before.before.args.l c.before.before.before.before.before.before.before.before.before.args.b c.before.before.before.before.before.before.loop-i.i c.before.before.before.single-v.result (omega (arith, c.before.before.before.before.before.before.loop-i.invariant.2)) c.before.before.before.before.get.ensures c.before.before.before.single-v.ensures c.before.before.comp.ensures c.before.is_level.ensures in
+    sym (ap not (one_fails (λ k. missb (meaning_v c.before.before.before.before.before.before.before.before.before.args.bytes.now c.before.before.before.before.before.before.before.before.before.args.b) (get_or (meaning_l c.before.before.before.before.before.before.before.before.before.args.bytes.now c.before.before.before.before.before.before.before.before.before.args.l) k unknown)) (length (meaning_l c.before.before.before.before.before.before.before.before.before.args.bytes.now c.before.before.before.before.before.before.before.before.before.args.l)) c.before.before.before.before.before.before.loop-i.i (omega (arith, size_is c.before.before.before.before.before.before.before.before.before.args.bytes.now c.before.before.before.before.before.before.before.before.before.args.l, c.before.before.before.before.before.before.loop-i.invariant.2)) (m ∙ ap not c.if-is_level.true)))
 
-loop-again : tie.Need-loop-preserved invariant-loop decreases-loop
+loop-again : tie.Need-loop-i-preserved invariant-loop decreases-loop
 loop-again c =
-    let m = miss_is c.before.before.before.before.before.before.before.before.before.args.bytes.now c.before.before.before.before.before.before.before.before.before.args.l c.before.before.before.before.before.before.before.before.before.args.b c.before.before.before.before.before.before.loop.i c.before.before.before.single.result (omega (arith, c.before.before.before.before.before.before.loop.invariant.2)) c.before.before.before.before.get.ensures c.before.before.before.single.ensures c.before.before.comp.ensures c.before.is-level.ensures in
-    (omega arith, c.before.before.before.before.before.before.loop.invariant.1, c.before.before.before.before.before.before.loop.invariant.2, below_more _ _ c.before.before.before.before.before.before.loop.invariant.3 (m ∙ ap not c.if1.false))
+    let m = miss_is c.before.before.before.before.before.before.before.before.before.args.bytes.now c.before.before.before.before.before.before.before.before.before.args.l c.before.before.before.before.before.before.before.before.before.args.b c.before.before.before.before.before.before.loop-i.i c.before.before.before.single-v.result (omega (arith, c.before.before.before.before.before.before.loop-i.invariant.2)) c.before.before.before.before.get.ensures c.before.before.before.single-v.ensures c.before.before.comp.ensures c.before.is_level.ensures in
+    (omega arith, c.before.before.before.before.before.before.loop-i.invariant.1, c.before.before.before.before.before.before.loop-i.invariant.2, below_more _ _ c.before.before.before.before.before.before.loop-i.invariant.3 (m ∙ ap not c.if-is_level.false))
 
-returns-2 : tie.Need-returns-2 invariant-loop decreases-loop
-returns-2 c = sym (ap not (all_hold (λ k. missb (meaning_v c.before.before.before.before.args.bytes.now c.before.before.before.before.args.b) (get_or (meaning_l c.before.before.before.before.args.bytes.now c.before.before.before.before.args.l) k unknown)) (length (meaning_l c.before.before.before.before.args.bytes.now c.before.before.before.before.args.l)) (λ k h. c.before.loop.invariant.3 k (omega (arith, size_is c.before.before.before.before.args.bytes.now c.before.before.before.before.args.l, c.before.loop.invariant.2)))))
+returns-2 : tie.Need-returns invariant-loop decreases-loop
+returns-2 c = sym (ap not (all_hold (λ k. missb (meaning_v c.before.before.before.before.args.bytes.now c.before.before.before.before.args.b) (get_or (meaning_l c.before.before.before.before.args.bytes.now c.before.before.before.before.args.l) k unknown)) (length (meaning_l c.before.before.before.before.args.bytes.now c.before.before.before.before.args.l)) (λ k h. c.before.loop-i.invariant.3 k (omega (arith, size_is c.before.before.before.before.args.bytes.now c.before.before.before.before.args.l, c.before.loop-i.invariant.2)))))
 
-pub found-spec : {M : Type 1} → statement M
-found-spec =
+pub found_spec : {M : Type 1} → statement M
+found_spec =
     tie.close
     (tie.spec
     invariant-loop

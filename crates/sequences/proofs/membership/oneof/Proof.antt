@@ -7,5 +7,5 @@ use Rattle.sequences.proofs.membership.oneof.Tie as tie
 returns : tie.Need-returns
 returns c = let a = c.before.before.args in oneof_is a.bytes.now a.a a.b c.includes.result c.includes.ensures
 
-pub oneof-spec : {M : Type 1} → statement M
-oneof-spec = tie.close (tie.spec (λ c κs. search rules) returns)
+pub oneof_spec : {M : Type 1} → statement M
+oneof_spec = tie.close (tie.spec (λ c κs. search rules) returns)

@@ -7,10 +7,10 @@ use borrow.Author.Rules.{rules}
 use Rattle.sheet.proofs.output.first.Statement.{statement}
 use Rattle.sheet.proofs.output.first.Tie as tie
 
-returns : tie.Need-returns
+returns : tie.Need-returns-then-text-n
 returns c = let a = c.before.before.before.before.before.before.before.args in appends_as (take_all a.n a.text.now (omega arith)) c.before.before.word.ensures
 
-slice-aggregate-word : tie.Need-slice-aggregate-word
+slice-aggregate-word : tie.Need-slice_bounds-word-end
 slice-aggregate-word c = simp length-take (omega arith)
 
 pub first_spec : {M : Type 1} → statement M

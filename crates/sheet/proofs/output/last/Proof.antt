@@ -5,11 +5,11 @@ use borrow.Author.Rules.{rules}
 use Rattle.sheet.proofs.output.last.Statement.{statement}
 use Rattle.sheet.proofs.output.last.Tie as tie
 
-returns : tie.Need-returns
-returns c = let a = c.before.before.before.before.args in none_left a.kept.now a.out.now a.s (let r = c.before.before.before.before.requires in omega arith) c.if1.true
+returns : tie.Need-returns-then-s-eq0
+returns c = let a = c.before.before.before.before.args in none_left a.kept.now a.out-1.now a.s (let r = c.before.before.before.before.requires in omega arith) c.if-s-eq0.true
 
-returns-2 : tie.Need-returns-2
-returns-2 c = let e = c.before.before.before.before.if1.false in one_left (omega arith) c.before.before.write-line.ensures
+returns-2 : tie.Need-returns
+returns-2 c = let e = c.before.before.before.before.if-s-eq0.false in one_left (omega arith) c.before.before.write_line.ensures
 
-pub last-spec : {M : Type 1} → statement M
-last-spec = tie.close (tie.spec returns (λ c κs. search rules) (λ c. search rules) returns-2)
+pub last_spec : {M : Type 1} → statement M
+last_spec = tie.close (tie.spec returns (λ c κs. search rules) (λ c. search rules) returns-2)

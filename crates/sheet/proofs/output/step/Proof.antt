@@ -5,11 +5,11 @@ use borrow.Author.Rules.{rules}
 use Rattle.sheet.proofs.output.step.Statement.{statement}
 use Rattle.sheet.proofs.output.step.Tie as tie
 
-returns : tie.Need-returns
-returns c = ends c.before.before.before.before.before.before.before.before.before.take.ensures c.before.before.before.before.before.before.if1.true c.before.before.before.write-line.ensures c.next.ensures
+returns : tie.Need-returns-then-t
+returns c = ends c.before.before.before.before.before.before.before.before.before.take-t.ensures c.before.before.before.before.before.before.if-t.true c.before.before.before.write_line-o.ensures c.next.ensures
 
-returns-2 : tie.Need-returns-2
-returns-2 c = goes_on c.before.before.before.take.ensures c.before.before.before.before.before.before.before.before.args.out.now (let r = c.before.before.before.before.before.before.before.before.requires in omega arith) c.if1.false
+returns-2 : tie.Need-returns
+returns-2 c = goes_on c.before.before.before.take-t.ensures c.before.before.before.before.before.before.before.before.args.out-1.now (let r = c.before.before.before.before.before.before.before.before.requires in omega arith) c.if-t.false
 
 pub step_spec : {M : Type 1} → statement M
 step_spec =

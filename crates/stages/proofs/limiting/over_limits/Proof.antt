@@ -13,11 +13,11 @@ use Rattle.token_tests.proofs.past_limit.Reads as past-limit-reads
 returns : tie.Need-returns
 returns c =
     let s = c.before.before.before.before.before.before.before.before.before.args in
-    over_least s.text.now s.kinds.now s.places.now s.lengths.now s.t s.short c.before.before.before.before.past_limit.result c.before.before.before.large.result c.before.before.whole.result c.before.earlier.result c.earlier2.result
-    c.before.before.before.before.past_limit.ensures c.before.before.before.large.ensures c.before.before.whole.ensures c.before.earlier.ensures c.earlier2.ensures
+    over_least s.text.now s.kinds.now s.places.now s.lengths.now s.t s.short c.before.before.before.before.past_limit-token.result c.before.before.before.large-expression.result c.before.before.whole-count.result c.before.earlier.result c.earlier-2.result
+    c.before.before.before.before.past_limit-token.ensures c.before.before.before.large-expression.ensures c.before.before.whole-count.ensures c.before.earlier.ensures c.earlier-2.ensures
 
-pub over-limits-spec : {M : Type 1} → statement M
-over-limits-spec =
+pub over_limits_spec : {M : Type 1} → statement M
+over_limits_spec =
     tie.close
     (tie.spec
     (λ c κs. search rules) (λ c κs. search rules) (λ c κs. search rules) (λ c κs. search rules) (λ c κs. search rules)

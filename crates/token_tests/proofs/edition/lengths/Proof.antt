@@ -8,5 +8,5 @@ returns : tie.Need-returns
 unfolding name_lengths
 returns c = refl
 
-pub lengths-spec : {M : Type 1} → statement M
-lengths-spec = tie.close (tie.spec returns)
+pub lengths_spec : {M : Type 1} → statement M
+lengths_spec = tie.close (tie.spec returns)

@@ -8,5 +8,5 @@ returns : tie.Need-returns
 unfolding name_bytes
 returns c = refl
 
-pub names-spec : {M : Type 1} → statement M
-names-spec = tie.close (tie.spec returns)
+pub names_spec : {M : Type 1} → statement M
+names_spec = tie.close (tie.spec returns)

@@ -12,23 +12,23 @@ use Rattle.token_tests.proofs.sizes.is_past_limit.Tie as tie
 told : (k : ℕ) (w : List ℕ) {r l : Limit} → r ≡ limit_of k w → r ≡ l → exceeded l ≡ limit_test k w
 told k w e f = ap exceeded (sym f ∙ e) ∙ exceeds_is k w
 
-returns : tie.Need-returns
-returns c = told c.before.before.before.before.args.k (cells c.before.before.before.before.args.text.now c.before.before.before.before.args.at c.before.before.before.before.args.n) c.before.before.past.ensures c.enum_told.given.1
+returns : tie.Need-returns-in-Within
+returns c = told c.before.before.before.before.args.k (cells c.before.before.before.before.args.text.now c.before.before.before.before.args.at c.before.before.before.before.args.n) c.before.before.past.ensures c.enum_told-1.given.1
 
-returns-2 : tie.Need-returns-2
-returns-2 c = told c.before.before.before.before.args.k (cells c.before.before.before.before.args.text.now c.before.before.before.before.args.at c.before.before.before.before.args.n) c.before.before.past.ensures c.enum-told2.given.1
+returns-2 : tie.Need-returns-in-Text
+returns-2 c = told c.before.before.before.before.args.k (cells c.before.before.before.before.args.text.now c.before.before.before.before.args.at c.before.before.before.before.args.n) c.before.before.past.ensures c.enum_told-in-Text-1.given.1
 
-returns-3 : tie.Need-returns-3
-returns-3 c = told c.before.before.before.before.args.k (cells c.before.before.before.before.args.text.now c.before.before.before.before.args.at c.before.before.before.before.args.n) c.before.before.past.ensures c.enum-told3.given.1
+returns-3 : tie.Need-returns-in-Integer
+returns-3 c = told c.before.before.before.before.args.k (cells c.before.before.before.before.args.text.now c.before.before.before.before.args.at c.before.before.before.before.args.n) c.before.before.past.ensures c.enum_told-in-Integer-1.given.1
 
-returns-4 : tie.Need-returns-4
-returns-4 c = told c.before.before.before.before.args.k (cells c.before.before.before.before.args.text.now c.before.before.before.before.args.at c.before.before.before.before.args.n) c.before.before.past.ensures c.enum-told4.given.1
+returns-4 : tie.Need-returns-in-Real
+returns-4 c = told c.before.before.before.before.args.k (cells c.before.before.before.before.args.text.now c.before.before.before.before.args.at c.before.before.before.before.args.n) c.before.before.past.ensures c.enum_told-in-Real-1.given.1
 
-returns-5 : tie.Need-returns-5
-returns-5 c = told c.before.before.before.before.args.k (cells c.before.before.before.before.args.text.now c.before.before.before.before.args.at c.before.before.before.before.args.n) c.before.before.past.ensures c.enum-told5.given.1
+returns-5 : tie.Need-returns-in-Decimals
+returns-5 c = told c.before.before.before.before.args.k (cells c.before.before.before.before.args.text.now c.before.before.before.before.args.at c.before.before.before.before.args.n) c.before.before.past.ensures c.enum_told-in-Decimals-1.given.1
 
-pub is-past-limit-spec : {M : Type 1} → statement M
-is-past-limit-spec =
+pub is_past_limit_spec : {M : Type 1} → statement M
+is_past_limit_spec =
     tie.close
     (tie.spec
     (λ c κs. search rules)

@@ -15,15 +15,15 @@ use Rattle.token_tests.proofs.sizes.of_float.Tie as tie
 
 -- the thousandths that they write
 value : (c : tie.After-fixed) → c.fixed.result ≡ N.fixed 0 (unsigned (cells c.before.before.before.args.text.now c.before.before.before.args.at c.before.before.before.args.n))
-value c = c.fixed.ensures.0 ∙ ap (N.fixed 0) c.before.unsigned.ensures.0
+value c = c.fixed.ensures.0 ∙ ap (N.fixed 0) c.before.unsigned-s.ensures.0
 
-returns : tie.Need-returns
+returns : tie.Need-returns-then-fixed-gt-REAL_LIMIT
 returns c =
     let a = c.before.before.before.before.args in
     let e = value c.before in
     rw (lt-ltb real_limit (N.fixed 0 (unsigned (cells a.text.now a.at a.n))) (omega arith))
 
-returns-2 : tie.Need-returns-2
+returns-2 : tie.Need-returns-then-behind-gt-DECIMALS
 returns-2 c =
     let a = c.before.before.before.before.before.before.args in
     let w = cells a.text.now a.at a.n in
@@ -31,13 +31,13 @@ returns-2 c =
     let b = c.before.behind.ensures in
     rw (le-ltb real_limit (N.fixed 0 (unsigned (cells a.text.now a.at a.n))) (omega arith), lt-ltb decimal_limit (length (behind_point (cells a.text.now a.at a.n))) (omega arith))
 
-returns-3 : tie.Need-returns-3
+returns-3 : tie.Need-returns
 returns-3 c =
     let a = c.before.before.before.before.before.before.args in
     let e = value c.before.before.before in
     let b = c.before.behind.ensures in
     rw (le-ltb real_limit (N.fixed 0 (unsigned (cells a.text.now a.at a.n))) (omega arith), le-ltb decimal_limit (length (behind_point (cells a.text.now a.at a.n))) (omega arith))
 
-pub of-float-spec : {M : Type 1} → statement M
-of-float-spec =
+pub of_float_spec : {M : Type 1} → statement M
+of_float_spec =
     tie.close (tie.spec (λ c κs. search rules) (λ c κs. search rules) returns (λ c κs. search rules) returns-2 returns-3)

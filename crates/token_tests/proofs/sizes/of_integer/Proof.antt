@@ -12,19 +12,19 @@ use Rattle.token_tests.proofs.sizes.of_integer.Tie as tie
 
 -- the number that they write
 value : (c : tie.After-digits) → c.digits.result ≡ N.digits 0 (unsigned (cells c.before.before.before.args.text.now c.before.before.before.args.at c.before.before.before.args.n))
-value c = c.digits.ensures.0 ∙ ap (N.digits 0) c.before.unsigned.ensures.0
+value c = c.digits.ensures.0 ∙ ap (N.digits 0) c.before.unsigned-s.ensures.0
 
-returns : tie.Need-returns
+returns : tie.Need-returns-then-digits-gt-INTEGER_LIMIT
 returns c =
     let a = c.before.before.before.before.args in
     let e = value c.before in
     rw (lt-ltb integer_limit (N.digits 0 (unsigned (cells a.text.now a.at a.n))) (omega arith))
 
-returns-2 : tie.Need-returns-2
+returns-2 : tie.Need-returns
 returns-2 c =
     let a = c.before.before.before.before.args in
     let e = value c.before in
     rw (le-ltb integer_limit (N.digits 0 (unsigned (cells a.text.now a.at a.n))) (omega arith))
 
-pub of-integer-spec : {M : Type 1} → statement M
-of-integer-spec = tie.close (tie.spec (λ c κs. search rules) (λ c κs. search rules) returns returns-2)
+pub of_integer_spec : {M : Type 1} → statement M
+of_integer_spec = tie.close (tie.spec (λ c κs. search rules) (λ c κs. search rules) returns returns-2)

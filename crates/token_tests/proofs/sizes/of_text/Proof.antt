@@ -12,20 +12,20 @@ use Rattle.token_tests.proofs.sizes.of_text.Statement.{statement}
 use Rattle.token_tests.proofs.sizes.of_text.Tie as tie
 
 -- how many they are
-size : (c : tie.After-inside) → c.inside.result.n ≡ length (inner (cells c.before.before.args.text.now c.before.before.args.at c.before.before.args.n))
-size c = sym (length_cells c.before.before.args.text.now c.inside.result.at c.inside.result.n) ∙ ap length c.inside.ensures.0
+size : (c : tie.After-inside-s) → c.inside-s.result.n ≡ length (inner (cells c.before.before.args.text.now c.before.before.args.at c.before.before.args.n))
+size c = sym (length_cells c.before.before.args.text.now c.inside-s.result.at c.inside-s.result.n) ∙ ap length c.inside-s.ensures.0
 
-returns : tie.Need-returns
+returns : tie.Need-returns-then-s-gt-TEXT_LIMIT
 returns c =
     let a = c.before.before.before.before.args in
     let e = size c.before.before in
     rw (lt-ltb Values.text_limit (length (inner (cells a.text.now a.at a.n))) (omega arith))
 
-returns-2 : tie.Need-returns-2
+returns-2 : tie.Need-returns
 returns-2 c =
     let a = c.before.before.before.before.args in
     let e = size c.before.before in
     rw (le-ltb Values.text_limit (length (inner (cells a.text.now a.at a.n))) (omega arith))
 
-pub of-text-spec : {M : Type 1} → statement M
-of-text-spec = tie.close (tie.spec (λ c κs. search rules) returns returns-2)
+pub of_text_spec : {M : Type 1} → statement M
+of_text_spec = tie.close (tie.spec (λ c κs. search rules) returns returns-2)

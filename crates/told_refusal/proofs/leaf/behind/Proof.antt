@@ -4,11 +4,11 @@ use borrow.Author.Rules.{rules}
 use Rattle.told_refusal.proofs.leaf.behind.Statement.{statement}
 use Rattle.told_refusal.proofs.leaf.behind.Tie as tie
 
-returns : tie.Need-returns
-returns c = simp (lt-ltb _ 4096 c.before.if1.true) c.next.ensures
+returns : tie.Need-returns-then-i-lt-LIMIT
+returns c = simp (lt-ltb _ 4096 c.before.if-i-lt-LIMIT.true) c.next.ensures
 
-returns-2 : tie.Need-returns-2
-returns-2 c = simp (le-ltb _ 4096 c.if1.false)
+returns-2 : tie.Need-returns
+returns-2 c = simp (le-ltb _ 4096 c.if-i-lt-LIMIT.false)
 
-pub behind-spec : {M : Type 1} → statement M
-behind-spec = tie.close (tie.spec (λ c. search rules) (λ c κs. search rules) returns returns-2)
+pub behind_spec : {M : Type 1} → statement M
+behind_spec = tie.close (tie.spec (λ c. search rules) (λ c κs. search rules) returns returns-2)

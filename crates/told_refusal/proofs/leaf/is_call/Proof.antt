@@ -6,11 +6,11 @@ use borrow.Author.Rules.{rules}
 use Rattle.told_refusal.proofs.leaf.is_call.Statement.{statement}
 use Rattle.told_refusal.proofs.leaf.is_call.Tie as tie
 
-returns : tie.Need-returns
+returns : tie.Need-returns-then-kinds-i
 returns c = simp (get_or-eq_default c.before.before.args.kinds.now 0 {n = c.before.before.args.i + 1} (omega arith))
 
-returns-2 : tie.Need-returns-2
+returns-2 : tie.Need-returns
 returns-2 c = simp c.byte.ensures
 
-pub is-call-spec : {M : Type 1} → statement M
-is-call-spec = tie.close (tie.spec returns (λ c. search rules) (λ c κs. search rules) returns-2)
+pub is_call_spec : {M : Type 1} → statement M
+is_call_spec = tie.close (tie.spec returns (λ c. search rules) (λ c κs. search rules) returns-2)

@@ -5,14 +5,14 @@ use borrow.Author.Rules.{rules}
 use Rattle.told_refusal.proofs.leaf.is_leaf.Statement.{statement}
 use Rattle.told_refusal.proofs.leaf.is_leaf.Tie as tie
 
-returns : tie.Need-returns
-returns c = simp (sym c.before.byte.ensures, lt-leb 95 _ c.if1.true)
+returns : tie.Need-returns-then-k-lt-OTHER_ATOM
+returns c = simp (sym c.before.byte-k.ensures, lt-leb 95 _ c.if-k-lt-OTHER_ATOM.true)
 
-returns-2 : tie.Need-returns-2
-returns-2 c = simp (sym c.before.before.byte.ensures, le-leb 95 _ c.before.if1.false, lt-ltb 97 _ c.if2.true)
+returns-2 : tie.Need-returns-then-k-gt-DATA_TYPE
+returns-2 c = simp (sym c.before.before.byte-k.ensures, le-leb 95 _ c.before.if-k-lt-OTHER_ATOM.false, lt-ltb 97 _ c.if-k-gt-DATA_TYPE.true)
 
-returns-3 : tie.Need-returns-3
-returns-3 c = simp (sym c.before.before.before.byte.ensures, le-leb 95 _ c.before.before.if1.false, le-ltb _ _ c.before.if2.false, c.is_call.ensures)
+returns-3 : tie.Need-returns
+returns-3 c = simp (sym c.before.before.before.byte-k.ensures, le-leb 95 _ c.before.before.if-k-lt-OTHER_ATOM.false, le-ltb _ _ c.before.if-k-gt-DATA_TYPE.false, c.is_call.ensures)
 
-pub is-leaf-spec : {M : Type 1} → statement M
-is-leaf-spec = tie.close (tie.spec (λ c κs. search rules) returns returns-2 (λ c κs. search rules) returns-3)
+pub is_leaf_spec : {M : Type 1} → statement M
+is_leaf_spec = tie.close (tie.spec (λ c κs. search rules) returns returns-2 (λ c κs. search rules) returns-3)

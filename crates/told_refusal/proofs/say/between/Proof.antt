@@ -6,14 +6,14 @@ use borrow.Author.Rules.{rules}
 use Rattle.told_refusal.proofs.say.between.Statement.{statement}
 use Rattle.told_refusal.proofs.say.between.Tie as tie
 
-abbrev invariant-loop : tie.invariant-loop
+abbrev invariant-loop : tie.invariant-loop-k
 invariant-loop kinds i from to t k₀ k = t ≡ spellings_table
 
-abbrev decreases-loop : tie.decreases-loop
+abbrev decreases-loop : tie.decreases-loop-k
 decreases-loop kinds i from to t k₀ k = to - k
 
-pub between-spec : {M : Type 1} → statement M
-between-spec =
+pub between_spec : {M : Type 1} → statement M
+between_spec =
     tie.close
     (tie.spec
     invariant-loop

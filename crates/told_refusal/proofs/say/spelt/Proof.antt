@@ -4,14 +4,14 @@ use borrow.Author.Rules.{rules}
 use Rattle.told_refusal.proofs.say.spelt.Statement.{statement}
 use Rattle.told_refusal.proofs.say.spelt.Tie as tie
 
-abbrev invariant-loop : tie.invariant-loop
+abbrev invariant-loop : tie.invariant-loop-j
 invariant-loop t k n j₀ j = Unit {0}
 
-abbrev decreases-loop : tie.decreases-loop
+abbrev decreases-loop : tie.decreases-loop-j
 decreases-loop t k n j₀ j = n - j
 
-pub spelt-spec : {M : Type 1} → statement M
-spelt-spec =
+pub spelt_spec : {M : Type 1} → statement M
+spelt_spec =
     tie.close
     (tie.spec
     invariant-loop

@@ -4,11 +4,11 @@ use borrow.Author.Rules.{rules}
 use Rattle.told_refusal.proofs.typed.given.Statement.{statement}
 use Rattle.told_refusal.proofs.typed.given.Tie as tie
 
-abbrev invariant-loop : tie.invariant-loop
+abbrev invariant-loop : tie.invariant-loop-k
 invariant-loop cells letters p c k₀ k = Unit {0}
 
-abbrev decreases-loop : tie.decreases-loop
+abbrev decreases-loop : tie.decreases-loop-k
 decreases-loop cells letters p c k₀ k = k
 
-pub given-spec : {M : Type 1} → statement M
-given-spec = tie.close (tie.spec invariant-loop decreases-loop (λ c. search rules) (λ c κs. search rules) (λ c. search rules) (λ c. search rules) (λ c. search rules) (λ c κs. search rules) (λ c κs. search rules) (λ c. search rules) (λ c. search rules) (λ c. search rules))
+pub given_spec : {M : Type 1} → statement M
+given_spec = tie.close (tie.spec invariant-loop decreases-loop (λ c. search rules) (λ c κs. search rules) (λ c. search rules) (λ c. search rules) (λ c. search rules) (λ c κs. search rules) (λ c κs. search rules) (λ c. search rules) (λ c. search rules) (λ c. search rules))

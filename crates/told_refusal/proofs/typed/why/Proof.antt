@@ -5,7 +5,7 @@ use Rattle.told_refusal.proofs.typed.why.Statement.{statement}
 use Rattle.told_refusal.proofs.typed.why.Tie as tie
 
 returns : tie.Need-returns
-returns c = settled_at c.before.before.before.before.before.first_part.ensures c.before.before.before.before.before.before.end.ensures c.before.before.before.settle.ensures
+returns c = settled_at c.before.before.before.before.before.first_part.ensures c.before.before.before.before.before.before.end-e.ensures c.before.before.before.settle-p.ensures
 
-pub why-spec : {M : Type 1} → statement M
-why-spec = tie.close (tie.spec (λ c κs. search rules) (λ c κs. search rules) (λ c. search rules) (λ c κs. search rules) (λ c. search rules) (λ c κs. search rules) returns)
+pub why_spec : {M : Type 1} → statement M
+why_spec = tie.close (tie.spec (λ c κs. search rules) (λ c κs. search rules) (λ c. search rules) (λ c κs. search rules) (λ c. search rules) (λ c κs. search rules) returns)

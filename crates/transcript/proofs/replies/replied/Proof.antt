@@ -6,14 +6,14 @@ use borrow.Author.Rules.{rules}
 use Rattle.transcript.proofs.replies.replied.Statement.{statement}
 use Rattle.transcript.proofs.replies.replied.Tie as tie
 
-returns : tie.Need-returns
-returns c = appends_as (ap reply_written c.before.before.before.before.before.enum_told.given.1) c.before.before.word.ensures
+returns : tie.Need-returns-in-Done
+returns c = appends_as (ap reply_written c.before.before.before.before.before.enum_told-1.given.1) c.before.before.word.ensures
 
-returns-2 : tie.Need-returns-2
-returns-2 c = appends_as (ap reply_written c.before.before.before.before.before.r.given.1) c.before.before.refused-line.ensures
+returns-2 : tie.Need-returns-in-Refused
+returns-2 c = appends_as (ap reply_written c.before.before.before.before.before.r-1.given.1) c.before.before.refused_line.ensures
 
-pub replied-spec : {M : Type 1} → statement M
-replied-spec =
+pub replied_spec : {M : Type 1} → statement M
+replied_spec =
     tie.close
     (tie.spec
     (λ c. search rules) (λ c. search rules) (λ c κs. search rules) (λ c. search rules) (λ c κs. search rules) (λ c. search rules)

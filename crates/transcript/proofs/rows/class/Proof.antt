@@ -7,29 +7,29 @@ use borrow.Author.Rules.{rules}
 use Rattle.transcript.proofs.rows.class.Statement.{statement}
 use Rattle.transcript.proofs.rows.class.Tie as tie
 
-returns : tie.Need-returns
+returns : tie.Need-returns-in-1
 unfolding class_words
 returns c = appends_as (ap class_word c.before.before.before.before.before.match.keys1) c.before.before.word.ensures
 
-returns-2 : tie.Need-returns-2
+returns-2 : tie.Need-returns-in-3
 unfolding class_words
-returns-2 c = appends_as (ap class_word c.before.before.before.before.before.match.keys2) c.before.before.word2.ensures
+returns-2 c = appends_as (ap class_word c.before.before.before.before.before.match.keys2) c.before.before.word-in-3.ensures
 
-returns-3 : tie.Need-returns-3
+returns-3 : tie.Need-returns-in-5
 unfolding class_words
-returns-3 c = appends_as (ap class_word c.before.before.before.before.before.match.keys3) c.before.before.word3.ensures
+returns-3 c = appends_as (ap class_word c.before.before.before.before.before.match.keys3) c.before.before.word-in-5.ensures
 
-returns-4 : tie.Need-returns-4
+returns-4 : tie.Need-returns-in-6
 unfolding class_words
-returns-4 c = appends_as (ap class_word c.before.before.before.before.before.match.keys4) c.before.before.word4.ensures
+returns-4 c = appends_as (ap class_word c.before.before.before.before.before.match.keys4) c.before.before.word-in-6.ensures
 
-returns-5 : tie.Need-returns-5
+returns-5 : tie.Need-returns-in_default
 returns-5 c =
     let n = c.before.before.before.before.before.match.rest in
-    appends_as (class_other c.before.before.before.before.before.before.before.args.n n.0.0.0.1 n.0.0.1 n.0.1 n.1) c.before.before.word5.ensures
+    appends_as (class_other c.before.before.before.before.before.before.before.args.n n.0.0.0.1 n.0.0.1 n.0.1 n.1) c.before.before.word-in_default.ensures
 
-pub class-spec : {M : Type 1} → statement M
-class-spec =
+pub class_spec : {M : Type 1} → statement M
+class_spec =
     tie.close
     (tie.spec
     (λ c. search rules) (λ c κs. search rules) (λ c. search rules) (λ c κs. search rules) (λ c. search rules) (λ c κs. search rules)

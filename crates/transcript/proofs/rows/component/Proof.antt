@@ -5,10 +5,10 @@ use Rattle.transcript.proofs.rows.component.Statement.{statement}
 use Rattle.transcript.proofs.rows.component.Tie as tie
 
 returns : tie.Need-returns
-returns c = append_then (append_then (append_then c.before.before.before.before.before.before.before.before.before.before.before.before.before.before.byte.ensures c.before.before.before.before.before.before.before.before.before.before.number.ensures) c.before.before.before.before.before.before.byte2.ensures) c.before.before.number2.ensures
+returns c = append_then (append_then (append_then c.before.before.before.before.before.before.before.before.before.before.before.before.before.before.byte-p.ensures c.before.before.before.before.before.before.before.before.before.before.number-q.ensures) c.before.before.before.before.before.before.byte-r.ensures) c.before.before.number.ensures
 
-pub component-spec : {M : Type 1} → statement M
-component-spec =
+pub component_spec : {M : Type 1} → statement M
+component_spec =
     tie.close
     (tie.spec
     (λ c κs. search rules) (λ c κs. search rules) (λ c κs. search rules) (λ c κs. search rules) (λ c. search rules)

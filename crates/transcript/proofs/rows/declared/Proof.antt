@@ -7,49 +7,49 @@ use borrow.Author.Rules.{rules}
 use Rattle.transcript.proofs.rows.declared.Statement.{statement}
 use Rattle.transcript.proofs.rows.declared.Tie as tie
 
-returns : tie.Need-returns
+returns : tie.Need-returns-in-1
 unfolding type_words
 returns c = appends_as (ap type_word c.before.before.before.before.before.match.keys1) c.before.before.word.ensures
 
-returns-2 : tie.Need-returns-2
+returns-2 : tie.Need-returns-in-2
 unfolding type_words
-returns-2 c = appends_as (ap type_word c.before.before.before.before.before.match.keys2) c.before.before.word2.ensures
+returns-2 c = appends_as (ap type_word c.before.before.before.before.before.match.keys2) c.before.before.word-in-2.ensures
 
-returns-3 : tie.Need-returns-3
+returns-3 : tie.Need-returns-in-3
 unfolding type_words
-returns-3 c = appends_as (ap type_word c.before.before.before.before.before.match.keys3) c.before.before.word3.ensures
+returns-3 c = appends_as (ap type_word c.before.before.before.before.before.match.keys3) c.before.before.word-in-3.ensures
 
-returns-4 : tie.Need-returns-4
+returns-4 : tie.Need-returns-in-4
 unfolding type_words
-returns-4 c = appends_as (ap type_word c.before.before.before.before.before.match.keys4) c.before.before.word4.ensures
+returns-4 c = appends_as (ap type_word c.before.before.before.before.before.match.keys4) c.before.before.word-in-4.ensures
 
-returns-5 : tie.Need-returns-5
+returns-5 : tie.Need-returns-in-5
 unfolding type_words
-returns-5 c = appends_as (ap type_word c.before.before.before.before.before.match.keys5) c.before.before.word5.ensures
+returns-5 c = appends_as (ap type_word c.before.before.before.before.before.match.keys5) c.before.before.word-in-5.ensures
 
-returns-6 : tie.Need-returns-6
+returns-6 : tie.Need-returns-in-6
 unfolding type_words
-returns-6 c = appends_as (ap type_word c.before.before.before.before.before.match.keys6) c.before.before.word6.ensures
+returns-6 c = appends_as (ap type_word c.before.before.before.before.before.match.keys6) c.before.before.word-in-6.ensures
 
-returns-7 : tie.Need-returns-7
+returns-7 : tie.Need-returns-in-7
 unfolding type_words
-returns-7 c = appends_as (ap type_word c.before.before.before.before.before.match.keys7) c.before.before.word7.ensures
+returns-7 c = appends_as (ap type_word c.before.before.before.before.before.match.keys7) c.before.before.word-in-7.ensures
 
-returns-8 : tie.Need-returns-8
+returns-8 : tie.Need-returns-in-8
 unfolding type_words
-returns-8 c = appends_as (ap type_word c.before.before.before.before.before.match.keys8) c.before.before.word8.ensures
+returns-8 c = appends_as (ap type_word c.before.before.before.before.before.match.keys8) c.before.before.word-in-8.ensures
 
-returns-9 : tie.Need-returns-9
+returns-9 : tie.Need-returns-in-9
 unfolding type_words
-returns-9 c = appends_as (ap type_word c.before.before.before.before.before.match.keys9) c.before.before.word9.ensures
+returns-9 c = appends_as (ap type_word c.before.before.before.before.before.match.keys9) c.before.before.word-in-9.ensures
 
-returns-10 : tie.Need-returns-10
+returns-10 : tie.Need-returns-in_default
 returns-10 c =
     let n = c.before.before.before.before.before.match.rest in
-    appends_as (type_other c.before.before.before.before.before.before.before.args.n n.0.0.0.0.0.0.0.0.1 n.0.0.0.0.0.0.0.1 n.0.0.0.0.0.0.1 n.0.0.0.0.0.1 n.0.0.0.0.1 n.0.0.0.1 n.0.0.1 n.0.1 n.1) c.before.before.word10.ensures
+    appends_as (type_other c.before.before.before.before.before.before.before.args.n n.0.0.0.0.0.0.0.0.1 n.0.0.0.0.0.0.0.1 n.0.0.0.0.0.0.1 n.0.0.0.0.0.1 n.0.0.0.0.1 n.0.0.0.1 n.0.0.1 n.0.1 n.1) c.before.before.word-in_default.ensures
 
-pub declared-spec : {M : Type 1} → statement M
-declared-spec =
+pub declared_spec : {M : Type 1} → statement M
+declared_spec =
     tie.close
     (tie.spec
     (λ c. search rules) (λ c κs. search rules) (λ c. search rules) (λ c κs. search rules) (λ c. search rules) (λ c κs. search rules)

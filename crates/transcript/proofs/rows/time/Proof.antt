@@ -5,7 +5,7 @@ use Rattle.transcript.proofs.rows.time.Statement.{statement}
 use Rattle.transcript.proofs.rows.time.Tie as tie
 
 returns : tie.Need-returns
-returns c = append_then c.before.before.before.before.before.before.byte.ensures c.before.before.number.ensures
+returns c = append_then c.before.before.before.before.before.before.byte-p.ensures c.before.before.number.ensures
 
-pub time-spec : {M : Type 1} → statement M
-time-spec = tie.close (tie.spec (λ c κs. search rules) (λ c κs. search rules) (λ c. search rules) returns)
+pub time_spec : {M : Type 1} → statement M
+time_spec = tie.close (tie.spec (λ c κs. search rules) (λ c κs. search rules) (λ c. search rules) returns)

@@ -5,8 +5,8 @@ use borrow.Author.Rules.{rules}
 use Rattle.transcript_values.proofs.buffer.flush.Statement.{statement}
 use Rattle.transcript_values.proofs.buffer.flush.Tie as tie
 
-slice-aggregate-write-all : tie.Need-slice-aggregate-write-all
+slice-aggregate-write-all : tie.Need-slice_bounds-write_all-end
 slice-aggregate-write-all c = simp length-take (omega arith)
 
-pub flush-spec : {M : Type 1} → statement M
-flush-spec = tie.close (tie.spec (λ c. search rules) slice-aggregate-write-all (λ c κs. search rules) (λ c. search rules))
+pub flush_spec : {M : Type 1} → statement M
+flush_spec = tie.close (tie.spec (λ c. search rules) slice-aggregate-write-all (λ c κs. search rules) (λ c. search rules))

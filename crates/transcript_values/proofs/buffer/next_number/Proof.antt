@@ -5,7 +5,7 @@ use Rattle.transcript_values.proofs.buffer.next_number.Statement.{statement}
 use Rattle.transcript_values.proofs.buffer.next_number.Tie as tie
 
 returns : tie.Need-returns
-returns c = append_then c.before.before.before.before.before.before.byte.ensures c.before.before.number.ensures
+returns c = append_then c.before.before.before.before.before.before.byte-p.ensures c.before.before.number.ensures
 
-pub next-number-spec : {M : Type 1} → statement M
-next-number-spec = tie.close (tie.spec (λ c κs. search rules) (λ c κs. search rules) (λ c. search rules) returns)
+pub next_number_spec : {M : Type 1} → statement M
+next_number_spec = tie.close (tie.spec (λ c κs. search rules) (λ c κs. search rules) (λ c. search rules) returns)

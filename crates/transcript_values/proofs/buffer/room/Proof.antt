@@ -7,15 +7,15 @@ use borrow.Author.Rules.{rules}
 use Rattle.transcript_values.proofs.buffer.room.Statement.{statement}
 use Rattle.transcript_values.proofs.buffer.room.Tie as tie
 
-returns : tie.Need-returns
+returns : tie.Need-returns-then-o-out
 returns c =
     let a = c.before.before.args in
-    simp (le-ltb (length a.out.now / 4) a.o c.if1.true)
+    simp (le-ltb (length a.out.now / 4) a.o c.if-o-out.true)
 
-returns-2 : tie.Need-returns-2
+returns-2 : tie.Need-returns
 returns-2 c =
     let a = c.before.before.before.args in
     simp (lt-ltb (length a.out.now / 4) a.o (omega arith))
 
-pub room-spec : {M : Type 1} → statement M
-room-spec = tie.close (tie.spec returns (λ c κs. search rules) returns-2)
+pub room_spec : {M : Type 1} → statement M
+room_spec = tie.close (tie.spec returns (λ c κs. search rules) returns-2)

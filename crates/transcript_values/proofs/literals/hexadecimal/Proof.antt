@@ -5,11 +5,11 @@ use borrow.Author.Rules.{rules}
 use Rattle.transcript_values.proofs.literals.hexadecimal.Statement.{statement}
 use Rattle.transcript_values.proofs.literals.hexadecimal.Tie as tie
 
-returns : tie.Need-returns
+returns : tie.Need-returns-then-n-lt10
 returns c = simp (lt-ltb c.before.args.n 10 (omega arith)) (omega arith)
 
-returns-2 : tie.Need-returns-2
+returns-2 : tie.Need-returns
 returns-2 c = simp (le-ltb c.before.args.n 10 (omega arith)) (omega arith)
 
-pub hexadecimal-spec : {M : Type 1} → statement M
-hexadecimal-spec = tie.close (tie.spec (λ c. search rules) returns (λ c. search rules) (λ c. search rules) returns-2)
+pub hexadecimal_spec : {M : Type 1} → statement M
+hexadecimal_spec = tie.close (tie.spec (λ c. search rules) returns (λ c. search rules) (λ c. search rules) returns-2)

@@ -15,23 +15,23 @@ use Rattle.transcript_values.proofs.literals.scalar.Tie as tie
 as_told : {out out' : List ℕ} {o r : ℕ} (bs : List ℕ) {s t : Scalar} → s ≡ t → Appends out out' o r (scalar_literal (meaning bs t)) → Appends out out' o r (scalar_literal (meaning bs s))
 as_told bs e h = appends_as (ap (λ (x : Scalar). scalar_literal (meaning bs x)) e) h
 
-returns : tie.Need-returns
-returns c = as_told c.before.before.before.before.before.before.before.before.args.bytes.now c.before.before.before.before.enum_told.given.1 c.before.before.byte.ensures
+returns : tie.Need-returns-in-Unknown
+returns c = as_told c.before.before.before.before.before.before.before.before.args.bytes.now c.before.before.before.before.enum_told-1.given.1 c.before.before.byte.ensures
 
-returns-2 : tie.Need-returns-2
-returns-2 c = as_told c.before.before.before.before.before.before.before.before.before.args.bytes.now c.before.before.before.before.before.s.given.1 c.before.before.truth.ensures
+returns-2 : tie.Need-returns-in-Truth
+returns-2 c = as_told c.before.before.before.before.before.before.before.before.before.args.bytes.now c.before.before.before.before.before.s-1.given.1 c.before.before.truth.ensures
 
-returns-3 : tie.Need-returns-3
-returns-3 c = as_told c.before.before.before.before.before.before.before.before.before.args.bytes.now c.before.before.before.before.before.s2.given.1 c.before.before.signed.ensures
+returns-3 : tie.Need-returns-in-Int
+returns-3 c = as_told c.before.before.before.before.before.before.before.before.before.args.bytes.now c.before.before.before.before.before.s-in-Int-1.given.1 c.before.before.signed.ensures
 
-returns-4 : tie.Need-returns-4
-returns-4 c = as_told c.before.before.before.before.before.before.before.before.before.args.bytes.now c.before.before.before.before.before.s3.given.1 c.before.before.signed2.ensures
+returns-4 : tie.Need-returns-in-Real
+returns-4 c = as_told c.before.before.before.before.before.before.before.before.before.args.bytes.now c.before.before.before.before.before.s-in-Real-1.given.1 c.before.before.signed-in-Real.ensures
 
-returns-5 : tie.Need-returns-5
-returns-5 c = as_told c.before.before.before.before.before.before.before.before.before.args.bytes.now c.before.before.before.before.before.s4.given.1 c.before.before.text.ensures
+returns-5 : tie.Need-returns-in-Text
+returns-5 c = as_told c.before.before.before.before.before.before.before.before.before.args.bytes.now c.before.before.before.before.before.s-in-Text-1.given.1 c.before.before.text.ensures
 
-pub scalar-spec : {M : Type 1} → statement M
-scalar-spec =
+pub scalar_spec : {M : Type 1} → statement M
+scalar_spec =
     tie.close
     (tie.spec
     (λ c. search rules) (λ c κs. search rules) (λ c. search rules) (λ c κs. search rules) (λ c. search rules) (λ c κs. search rules)

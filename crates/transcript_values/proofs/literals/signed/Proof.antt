@@ -5,7 +5,7 @@ use Rattle.transcript_values.proofs.literals.signed.Statement.{statement}
 use Rattle.transcript_values.proofs.literals.signed.Tie as tie
 
 returns : tie.Need-returns
-returns c = append_then c.before.before.before.before.before.before.byte.ensures c.before.before.integer.ensures
+returns c = append_then c.before.before.before.before.before.before.byte-p.ensures c.before.before.integer.ensures
 
-pub signed-spec : {M : Type 1} → statement M
-signed-spec = tie.close (tie.spec (λ c κs. search rules) (λ c κs. search rules) (λ c. search rules) returns)
+pub signed_spec : {M : Type 1} → statement M
+signed_spec = tie.close (tie.spec (λ c κs. search rules) (λ c κs. search rules) (λ c. search rules) returns)

@@ -5,7 +5,7 @@ use Rattle.transcript_values.proofs.literals.text.Statement.{statement}
 use Rattle.transcript_values.proofs.literals.text.Tie as tie
 
 returns : tie.Need-returns
-returns c = append_then c.before.before.before.before.before.before.byte.ensures c.before.before.spelt.ensures
+returns c = append_then c.before.before.before.before.before.before.byte-p.ensures c.before.before.spelt.ensures
 
-pub text-spec : {M : Type 1} → statement M
-text-spec = tie.close (tie.spec (λ c κs. search rules) (λ c κs. search rules) (λ c. search rules) returns)
+pub text_spec : {M : Type 1} → statement M
+text_spec = tie.close (tie.spec (λ c κs. search rules) (λ c κs. search rules) (λ c. search rules) returns)

@@ -5,10 +5,10 @@ use Rattle.transcript_values.proofs.literals.two_digits.Statement.{statement}
 use Rattle.transcript_values.proofs.literals.two_digits.Tie as tie
 
 returns : tie.Need-returns
-returns c = append_then (rw c.before.before.before.before.before.before.before.before.before.hexadecimal.ensures at c.before.before.before.before.before.before.before.byte.ensures) (rw c.before.before.before.before.hexadecimal2.ensures at c.before.before.byte2.ensures)
+returns c = append_then (rw c.before.before.before.before.before.before.before.before.before.hexadecimal.ensures at c.before.before.before.before.before.before.before.byte-p.ensures) (rw c.before.before.before.before.hexadecimal-2.ensures at c.before.before.byte.ensures)
 
-pub two-digits-spec : {M : Type 1} → statement M
-two-digits-spec =
+pub two_digits_spec : {M : Type 1} → statement M
+two_digits_spec =
     tie.close
     (tie.spec
     (λ c κs. search rules) (λ c κs. search rules) (λ c κs. search rules) (λ c κs. search rules) (λ c. search rules)

@@ -6,14 +6,14 @@ use borrow.Author.Rules.{rules}
 use Rattle.tree.proofs.owners.begins.Statement.{statement}
 use Rattle.tree.proofs.owners.begins.Tie as tie
 
-returns : tie.Need-returns
-returns c = c.is_task.ensures ∙ ap (λ (o : Owner). begins_kind o c.before.before.before.args.k) (sym c.before.enum_told.given.1)
+returns : tie.Need-returns-in-Task
+returns c = c.is_task.ensures ∙ ap (λ (o : Owner). begins_kind o c.before.before.before.args.k) (sym c.before.enum_told-1.given.1)
 
-returns-2 : tie.Need-returns-2
-returns-2 c = ap (λ (o : Owner). begins_kind o c.before.before.args.k) (sym c.enum-told2.given.1)
+returns-2 : tie.Need-returns-in-Item
+returns-2 c = ap (λ (o : Owner). begins_kind o c.before.before.args.k) (sym c.enum_told-in-Item-1.given.1)
 
-returns-3 : tie.Need-returns-3
-returns-3 c = ap (λ (o : Owner). begins_kind o c.before.before.args.k) (sym c.enum-told3.given.1)
+returns-3 : tie.Need-returns-in-Source
+returns-3 c = ap (λ (o : Owner). begins_kind o c.before.before.args.k) (sym c.enum_told-in-Source-1.given.1)
 
-pub begins-spec : {M : Type 1} → statement M
-begins-spec = tie.close (tie.spec (λ c. search rules) (λ c κs. search rules) (λ c. search rules) (λ c. search rules) returns returns-2 returns-3)
+pub begins_spec : {M : Type 1} → statement M
+begins_spec = tie.close (tie.spec (λ c. search rules) (λ c κs. search rules) (λ c. search rules) (λ c. search rules) returns returns-2 returns-3)

@@ -4,11 +4,11 @@ use borrow.Author.Rules.{rules}
 use Rattle.tree.proofs.requests.enquiries.Statement.{statement}
 use Rattle.tree.proofs.requests.enquiries.Tie as tie
 
-abbrev invariant-loop : tie.invariant-loop
+abbrev invariant-loop : tie.invariant-loop-t
 invariant-loop rows parts texts plan state d t₀ t = Unit {0}
 
-abbrev decreases-loop : tie.decreases-loop
+abbrev decreases-loop : tie.decreases-loop-t
 decreases-loop rows parts texts plan state d t₀ t = 32 - t
 
-pub enquiries-spec : {M : Type 1} → statement M
-enquiries-spec = tie.close (tie.spec invariant-loop decreases-loop (λ c. search rules) (λ c κs. search rules) (λ c κs. search rules) (λ c. search rules) (λ c. search rules) (λ c. search rules) (λ c. search rules))
+pub enquiries_spec : {M : Type 1} → statement M
+enquiries_spec = tie.close (tie.spec invariant-loop decreases-loop (λ c. search rules) (λ c κs. search rules) (λ c κs. search rules) (λ c. search rules) (λ c. search rules) (λ c. search rules) (λ c. search rules))

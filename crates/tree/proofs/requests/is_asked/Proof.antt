@@ -6,5 +6,5 @@ use Rattle.tree.proofs.requests.is_asked.Tie as tie
 returns : tie.Need-returns
 returns c = cc
 
-pub is-asked-spec : {M : Type 1} → statement M
-is-asked-spec = tie.close (tie.spec (λ c κs. search rules) (λ c κs. search rules) (λ c κs. search rules) returns)
+pub is_asked_spec : {M : Type 1} → statement M
+is_asked_spec = tie.close (tie.spec (λ c κs. search rules) (λ c κs. search rules) (λ c κs. search rules) returns)

@@ -6,5 +6,5 @@ use Rattle.tree.proofs.requests.is_source.Tie as tie
 returns : tie.Need-returns
 returns c = cc
 
-pub is-source-spec : {M : Type 1} → statement M
-is-source-spec = tie.close (tie.spec (λ c κs. search rules) (λ c κs. search rules) (λ c κs. search rules) (λ c κs. search rules) (λ c κs. search rules) returns)
+pub is_source_spec : {M : Type 1} → statement M
+is_source_spec = tie.close (tie.spec (λ c κs. search rules) (λ c κs. search rules) (λ c κs. search rules) (λ c κs. search rules) (λ c κs. search rules) returns)

@@ -6,5 +6,5 @@ use Rattle.tree.proofs.tasks.is_waiting.Tie as tie
 returns : tie.Need-returns
 returns c = cc
 
-pub is-waiting-spec : {M : Type 1} → statement M
-is-waiting-spec = tie.close (tie.spec (λ c κs. search rules) (λ c κs. search rules) (λ c κs. search rules) (λ c κs. search rules) (λ c κs. search rules) returns)
+pub is_waiting_spec : {M : Type 1} → statement M
+is_waiting_spec = tie.close (tie.spec (λ c κs. search rules) (λ c κs. search rules) (λ c κs. search rules) (λ c κs. search rules) (λ c κs. search rules) returns)

@@ -4,11 +4,11 @@ use borrow.Author.Rules.{rules}
 use Rattle.tree.proofs.walk.more.Statement.{statement}
 use Rattle.tree.proofs.walk.more.Tie as tie
 
-returns : tie.Need-returns
-returns c = rw (lt-ltb c.before.args.u 32 c.if1.true)
+returns : tie.Need-returns-then-u-lt-LIMIT
+returns c = rw (lt-ltb c.before.args.u 32 c.if-u-lt-LIMIT.true)
 
-returns-2 : tie.Need-returns-2
-returns-2 c = rw (le-ltb c.before.args.u 32 c.if1.false)
+returns-2 : tie.Need-returns
+returns-2 c = rw (le-ltb c.before.args.u 32 c.if-u-lt-LIMIT.false)
 
-pub more-spec : {M : Type 1} → statement M
-more-spec = tie.close (tie.spec (λ c. search rules) returns returns-2)
+pub more_spec : {M : Type 1} → statement M
+more_spec = tie.close (tie.spec (λ c. search rules) returns returns-2)

@@ -7,18 +7,18 @@ use borrow.Author.Rules.{rules}
 use Rattle.tree.proofs.walk.next.Statement.{statement}
 use Rattle.tree.proofs.walk.next.Tie as tie
 
-returns : tie.Need-returns
-returns c = no_task c.if1.true
+returns : tie.Need-returns-then-t-ge-LIMIT
+returns c = no_task c.if-t-ge-LIMIT.true
 
-returns-2 : tie.Need-returns-2
-returns-2 c = component c.before.before.if1.false c.before.child.ensures c.if2.true
+returns-2 : tie.Need-returns-then-c-lt-LIMIT
+returns-2 c = component c.before.before.if-t-ge-LIMIT.false c.before.child-c.ensures c.if-c-lt-LIMIT.true
 
-returns-3 : tie.Need-returns-3
+returns-3 : tie.Need-returns
 returns-3 c =
-    let l = c.before.if2.false in
-    let i = c.before.before.child.ensures.within in
-    let e : c.before.before.child.result ≡ 32 = omega arith in
-    behind c.before.before.before.if1.false (subst (λ (k : ℕ). Child c.before.before.before.before.before.args.plan.now (c.before.before.before.before.before.args.t + 1) 0 k) e c.before.before.child.ensures) c.behind.ensures
+    let l = c.before.if-c-lt-LIMIT.false in
+    let i = c.before.before.child-c.ensures.within in
+    let e : c.before.before.child-c.result ≡ 32 = omega arith in
+    behind c.before.before.before.if-t-ge-LIMIT.false (subst (λ (k : ℕ). Child c.before.before.before.before.before.args.plan.now (c.before.before.before.before.before.args.t + 1) 0 k) e c.before.before.child-c.ensures) c.behind.ensures
 
-pub next-spec : {M : Type 1} → statement M
-next-spec = tie.close (tie.spec returns (λ c. search rules) (λ c κs. search rules) returns-2 (λ c κs. search rules) returns-3)
+pub next_spec : {M : Type 1} → statement M
+next_spec = tie.close (tie.spec returns (λ c. search rules) (λ c κs. search rules) returns-2 (λ c κs. search rules) returns-3)

@@ -9,20 +9,20 @@ use borrow.Author.Rules.{rules}
 use Rattle.typed_value.proofs.lists.behind.Statement.{statement}
 use Rattle.typed_value.proofs.lists.behind.Tie as tie
 
-returns : tie.Need-returns
+returns : tie.Need-returns-then-b-eq93
 returns c =
     let e = ap (λ (x : Turn). x.place) c.turned.ensures in
-    (search rules, rw (← c.before.before.before.before.skip.ensures.1, ← c.before.before.before.byte.ensures, eq-eqb c.before.before.before.byte.result 93 c.before.before.if1.true) (c.turned.ensures ∙ ap {B = Turn} (λ (p : ℕ). record { place = p; slip = Fine; more = false }) c.before.after.ensures.1))
+    (search rules, rw (← c.before.before.before.before.skip-q.ensures.1, ← c.before.before.before.byte-b.ensures, eq-eqb c.before.before.before.byte-b.result 93 c.before.before.if-b-eq93.true) (c.turned.ensures ∙ ap {B = Turn} (λ (p : ℕ). record { place = p; slip = Fine; more = false }) c.before.after.ensures.1))
 
-returns-2 : tie.Need-returns-2
+returns-2 : tie.Need-returns-then-b-eq44
 returns-2 c =
-    let e = ap (λ (x : Turn). x.place) c.turned2.ensures in
-    (search rules, rw (← c.before.before.before.before.before.skip.ensures.1, ← c.before.before.before.before.byte.ensures, ne_eqb c.before.before.before.before.byte.result 93 c.before.before.before.if1.false, eq-eqb c.before.before.before.before.byte.result 44 c.before.before.if2.true) (c.turned2.ensures ∙ ap {B = Turn} (λ (p : ℕ). record { place = p; slip = Fine; more = true }) c.before.next.ensures.1))
+    let e = ap (λ (x : Turn). x.place) c.turned-then-b-eq44.ensures in
+    (search rules, rw (← c.before.before.before.before.before.skip-q.ensures.1, ← c.before.before.before.before.byte-b.ensures, ne_eqb c.before.before.before.before.byte-b.result 93 c.before.before.before.if-b-eq93.false, eq-eqb c.before.before.before.before.byte-b.result 44 c.before.before.if-b-eq44.true) (c.turned-then-b-eq44.ensures ∙ ap {B = Turn} (λ (p : ℕ). record { place = p; slip = Fine; more = true }) c.before.next.ensures.1))
 
-returns-3 : tie.Need-returns-3
+returns-3 : tie.Need-returns
 returns-3 c =
-    let e = ap (λ (x : Turn). x.place) c.turned3.ensures in
-    (search rules, rw (← c.before.before.before.before.skip.ensures.1, ← c.before.before.before.byte.ensures, ne_eqb c.before.before.before.byte.result 93 c.before.before.if1.false, ne_eqb c.before.before.before.byte.result 44 c.before.if2.false) c.turned3.ensures)
+    let e = ap (λ (x : Turn). x.place) c.turned-2.ensures in
+    (search rules, rw (← c.before.before.before.before.skip-q.ensures.1, ← c.before.before.before.byte-b.ensures, ne_eqb c.before.before.before.byte-b.result 93 c.before.before.if-b-eq93.false, ne_eqb c.before.before.before.byte-b.result 44 c.before.if-b-eq44.false) c.turned-2.ensures)
 
-pub behind-spec : {M : Type 1} → statement M
-behind-spec = tie.close (tie.spec (λ c κs. search rules) (λ c κs. search rules) (λ c κs. search rules) (λ c κs. search rules) returns (λ c κs. search rules) (λ c κs. search rules) returns-2 (λ c κs. search rules) returns-3)
+pub behind_spec : {M : Type 1} → statement M
+behind_spec = tie.close (tie.spec (λ c κs. search rules) (λ c κs. search rules) (λ c κs. search rules) (λ c κs. search rules) returns (λ c κs. search rules) (λ c κs. search rules) returns-2 (λ c κs. search rules) returns-3)

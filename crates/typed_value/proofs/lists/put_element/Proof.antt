@@ -17,12 +17,12 @@ returns : tie.Need-returns
 returns c =
     let a = c.before.before.before.before.before.before.before.before.before.before.before.before.before.before.before.before.args in
     let e = ap (λ (x : Step). x.place) c.reached.ensures in
-    let h = c.before.before.before.before.before.before.before.before.before.before.before.read.ensures in
-    let f : SFits w64 c.before.before.before.before.before.before.before.before.before.before.before.read.result.number = search rules in (
+    let h = c.before.before.before.before.before.before.before.before.before.before.before.read-e.ensures in
+    let f : SFits w64 c.before.before.before.before.before.before.before.before.before.before.before.read-e.result.number = search rules in (
       search rules,
       as_step a.i (element_at a.s.now a.at) h.1 c.reached.ensures,
-      as_put a.i (element_at a.s.now a.at) a.tags.now a.numbers.now a.bytes.now h.1 c.before.before.before.before.before.before.before.put-cell.ensures (c.before.before.put-number.ensures ∙ ap (λ (z : ℤ). set a.numbers.now (1 + a.i) z) (to_z-of_z f)) h.2,
+      as_put a.i (element_at a.s.now a.at) a.tags-1.now a.numbers-1.now a.bytes-1.now h.1 c.before.before.before.before.before.before.before.put_cell.ensures (c.before.before.put_number.ensures ∙ ap (λ (z : ℤ). set a.numbers-1.now (1 + a.i) z) (to_z-of_z f)) h.2,
     )
 
-pub put-element-spec : {M : Type 1} → statement M
-put-element-spec = tie.close (tie.spec (λ c κs. search rules) (λ c. search rules) (λ c κs. search rules) (λ c. search rules) (λ c κs. search rules) (λ c κs. search rules) (λ c. search rules) (λ c. search rules) (λ c. search rules) returns)
+pub put_element_spec : {M : Type 1} → statement M
+put_element_spec = tie.close (tie.spec (λ c κs. search rules) (λ c. search rules) (λ c κs. search rules) (λ c. search rules) (λ c κs. search rules) (λ c κs. search rules) (λ c. search rules) (λ c. search rules) (λ c. search rules) returns)

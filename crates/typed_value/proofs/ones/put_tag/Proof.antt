@@ -8,7 +8,7 @@ use Rattle.typed_value.proofs.ones.put_tag.Statement.{statement}
 use Rattle.typed_value.proofs.ones.put_tag.Tie as tie
 
 returns : tie.Need-returns
-returns c = c.before.before.put-cell2.ensures ∙ ap (λ (y : List ℕ). set y 0 0) c.before.before.before.before.before.before.put-cell.ensures
+returns c = c.before.before.put_cell-2.ensures ∙ ap (λ (y : List ℕ). set y 0 0) c.before.before.before.before.before.before.put_cell.ensures
 
-pub put-tag-spec : {M : Type 1} → statement M
-put-tag-spec = tie.close (tie.spec (λ c κs. search rules) (λ c κs. search rules) (λ c. search rules) returns)
+pub put_tag_spec : {M : Type 1} → statement M
+put_tag_spec = tie.close (tie.spec (λ c κs. search rules) (λ c κs. search rules) (λ c. search rules) returns)

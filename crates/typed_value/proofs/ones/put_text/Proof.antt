@@ -16,11 +16,11 @@ returns : tie.Need-returns
 unfolding tags_with numbers_with texts_with
 returns c =
     let a = c.before.before.before.before.before.before.before.before.before.before.before.before.before.before.args in (
-      c.before.before.before.before.before.before.before.before.before.put-tag.ensures,
-      c.before.put-number.ensures
-          ∙ ap (λ (z : ℤ). set a.numbers.now 1 z) (to_z-of_z (sfits_of c.before.before.before.before.copy.type-inv) ∙ c.before.before.before.before.copy.ensures.0 ∙ ap (λ (m : ℕ). pos (64 * 0 * 64 + m)) (sym (cells_long a.s.now 0 (kept_of_fn (length a.s.now))))),
+      c.before.before.before.before.before.before.before.before.before.put_tag.ensures,
+      c.before.put_number.ensures
+          ∙ ap (λ (z : ℤ). set a.numbers-1.now 1 z) (to_z-of_z (sfits_of c.before.before.before.before.copy.type-inv) ∙ c.before.before.before.before.copy.ensures.0 ∙ ap (λ (m : ℕ). pos (64 * 0 * 64 + m)) (sym (cells_long a.s.now 0 (kept_of_fn (length a.s.now))))),
       c.before.before.before.before.copy.ensures.1,
     )
 
-pub put-text-spec : {M : Type 1} → statement M
-put-text-spec = tie.close (tie.spec (λ c κs. search rules) (λ c κs. search rules) (λ c κs. search rules) (λ c. search rules) (λ c. search rules) (λ c. search rules) returns)
+pub put_text_spec : {M : Type 1} → statement M
+put_text_spec = tie.close (tie.spec (λ c κs. search rules) (λ c κs. search rules) (λ c κs. search rules) (λ c. search rules) (λ c. search rules) (λ c. search rules) returns)

@@ -6,7 +6,7 @@ use Rattle.typed_value.proofs.ones.put_unknown.Tie as tie
 
 returns : tie.Need-returns
 unfolding tags_with numbers_with
-returns c = (c.before.before.before.before.before.put-tag.ensures, c.before.put-number.ensures)
+returns c = (c.before.before.before.before.before.put_tag.ensures, c.before.put_number.ensures)
 
-pub put-unknown-spec : {M : Type 1} → statement M
-put-unknown-spec = tie.close (tie.spec (λ c κs. search rules) (λ c κs. search rules) (λ c. search rules) (λ c. search rules) returns)
+pub put_unknown_spec : {M : Type 1} → statement M
+put_unknown_spec = tie.close (tie.spec (λ c κs. search rules) (λ c κs. search rules) (λ c. search rules) (λ c. search rules) returns)

@@ -5,10 +5,10 @@ use Rattle.value_given.proofs.bounds.small_text.Statement.{statement}
 use Rattle.value_given.proofs.bounds.small_text.Tie as tie
 
 returns : tie.Need-returns
-returns c = let a = c.before.before.before.args in text_by a.bytes.now a.w.z c.before.natural.ensures c.small_text.ensures
+returns c = let a = c.before.before.before.args in text_by a.bytes.now a.w.z c.before.natural-h.ensures c.small_text.ensures
 
-pub small-text-spec : {M : Type 1} → statement M
-small-text-spec =
+pub small_text_spec : {M : Type 1} → statement M
+small_text_spec =
     tie.close
     (tie.spec
     (λ c κs. search rules)

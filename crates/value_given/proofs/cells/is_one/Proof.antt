@@ -19,5 +19,5 @@ one-bits (negsuc n) h = ne_eqb (2 ^ 64 - suc n) 1 (λ e. let k : n < 2 ^ 63 = h.
 returns : tie.Need-returns
 returns c = let f : SFits w64 c.before.args.w.z = search rules in one-bits c.before.args.w.z f
 
-pub is-one-spec : {M : Type 1} → statement M
-is-one-spec = tie.close (tie.spec returns)
+pub is_one_spec : {M : Type 1} → statement M
+is_one_spec = tie.close (tie.spec returns)

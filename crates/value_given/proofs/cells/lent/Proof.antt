@@ -4,10 +4,10 @@ use Rattle.value_given.specs.Cells.{lent_in, lent_out}
 use Rattle.value_given.proofs.cells.lent.Statement.{statement}
 use Rattle.value_given.proofs.cells.lent.Tie as tie
 
-returns : tie.Need-returns
-returns c = let a = c.before.args in lent_in a.tags.now a.nums.now a.i c.if1.true
+returns : tie.Need-returns-then-i-tags
+returns c = let a = c.before.args in lent_in a.tags.now a.nums.now a.i c.if-i-tags.true
 
-returns-2 : tie.Need-returns-2
+returns-2 : tie.Need-returns
 returns-2 c = let a = c.before.args in lent_out a.tags.now a.nums.now a.i (omega arith)
 
 pub lent_spec : {M : Type 1} → statement M

@@ -18,26 +18,26 @@ fitting : (z : ℤ) → SFits w64 z → non_neg z ≡ true → T (non_neg z) × 
 fitting (pos n) f e = (tt, record { fits = let k : n < 2 ^ 63 = f.sfits in omega arith })
 fitting (negsuc n) f e = absurd (subst T (sym e) tt)
 
-returns : tie.Need-returns
+returns : tie.Need-returns-then-z-lt0
 returns c =
     let z = c.before.before.args.w.z in
     let f : SFits w64 z = search rules in
-    let e : lt_z z (pos 0) ≡ true = simp (to_z-of_z f) at c.if1.true in
+    let e : lt_z z (pos 0) ≡ true = simp (to_z-of_z f) at c.if-z-lt0.true in
     sym (below_zero z e).1
 
-cast-result : tie.Need-overflow-cast-result
+cast-result : tie.Need-overflow_cast-result
 cast-result c =
     let z = c.before.before.args.w.z in
     let f : SFits w64 z = search rules in
-    let e : lt_z z (pos 0) ≡ false = simp (to_z-of_z f) at c.if1.false in
+    let e : lt_z z (pos 0) ≡ false = simp (to_z-of_z f) at c.if-z-lt0.false in
     simp (to_z-of_z f) (fitting z f (not_below_zero z e).0)
 
-returns-2 : tie.Need-returns-2
+returns-2 : tie.Need-returns
 returns-2 c =
     let z = c.before.before.args.w.z in
     let f : SFits w64 z = search rules in
-    let e : lt_z z (pos 0) ≡ false = simp (to_z-of_z f) at c.if1.false in
+    let e : lt_z z (pos 0) ≡ false = simp (to_z-of_z f) at c.if-z-lt0.false in
     simp (to_z-of_z f) (not_below_zero z e).1
 
-pub natural-spec : {M : Type 1} → statement M
-natural-spec = tie.close (tie.spec returns cast-result returns-2)
+pub natural_spec : {M : Type 1} → statement M
+natural_spec = tie.close (tie.spec returns cast-result returns-2)

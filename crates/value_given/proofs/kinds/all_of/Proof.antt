@@ -7,32 +7,32 @@ use borrow.Author.Rules.{rules}
 use Rattle.value_given.proofs.kinds.all_of.Statement.{statement}
 use Rattle.value_given.proofs.kinds.all_of.Tie as tie
 
-abbrev invariant-loop : tie.invariant-loop
+abbrev invariant-loop : tie.invariant-loop-i
 invariant-loop tags nums e shape i₀ i = (1 ≤ i) × AllOf tags nums e i
 
-abbrev decreases-loop : tie.decreases-loop
+abbrev decreases-loop : tie.decreases-loop-i
 decreases-loop tags nums e shape i₀ i = shape - i
 
-loop-holds : tie.Need-loop-init invariant-loop decreases-loop
+loop-holds : tie.Need-loop-i-init invariant-loop decreases-loop
 loop-holds c = let a = c.before.args in (omega arith, all_none a.tags.now a.nums.now a.e)
 
-returns : tie.Need-returns invariant-loop decreases-loop
+returns : tie.Need-returns-then-not-is_of invariant-loop decreases-loop
 returns c =
     let a = c.before.before.before.before.before.args in
-    all_not a.tags.now a.nums.now a.e c.before.before.before.loop.i a.shape c.before.before.before.loop.invariant.0 c.before.before.loop-test.true c.before.is_of.ensures (not-true _ c.if1.true)
+    all_not a.tags.now a.nums.now a.e c.before.before.before.loop-i.i a.shape c.before.before.before.loop-i.invariant.0 c.before.before.loop-i-test.true-raw c.before.is_of.ensures (not-true _ c.if-not-is_of.true-raw)
 
-loop-again : tie.Need-loop-preserved invariant-loop decreases-loop
+loop-again : tie.Need-loop-i-preserved invariant-loop decreases-loop
 loop-again c =
     let a = c.before.before.before.before.before.args in
-    (omega arith, all_more a.tags.now a.nums.now a.e c.before.before.before.loop.i c.before.is_of.ensures (not-false _ c.if1.false) c.before.before.before.loop.invariant.1)
+    (omega arith, all_more a.tags.now a.nums.now a.e c.before.before.before.loop-i.i c.before.is_of.ensures (not-false _ c.if-not-is_of.false-raw) c.before.before.before.loop-i.invariant.1)
 
-returns-2 : tie.Need-returns-2 invariant-loop decreases-loop
+returns-2 : tie.Need-returns invariant-loop decreases-loop
 returns-2 c =
     let a = c.before.before.before.args in
-    all_all a.tags.now a.nums.now a.e c.before.loop.i a.shape (omega arith) c.before.loop.invariant.1
+    all_all a.tags.now a.nums.now a.e c.before.loop-i.i a.shape (omega arith) c.before.loop-i.invariant.1
 
-pub all-of-spec : {M : Type 1} → statement M
-all-of-spec =
+pub all_of_spec : {M : Type 1} → statement M
+all_of_spec =
     tie.close
     (tie.spec
     invariant-loop

@@ -7,26 +7,26 @@ use borrow.Author.Rules.{rules}
 use Rattle.value_given.proofs.kinds.is_kind.Statement.{statement}
 use Rattle.value_given.proofs.kinds.is_kind.Tie as tie
 
-returns : tie.Need-returns
-returns c = let a = c.before.args in ap (λ (k : ℕ). kind_f a.e k a.w.z) (sym c.match.keys1)
+returns : tie.Need-returns-in-0
+returns c = let a = c.before.args in ap (λ (k : ℕ). kind_f a.e k a.w.z) (sym c.in-0.keys1)
 
-returns-2 : tie.Need-returns-2
-returns-2 c = let a = c.before.args in ap (λ (k : ℕ). kind_f a.e k a.w.z) (sym c.match.keys2)
+returns-2 : tie.Need-returns-in-1
+returns-2 c = let a = c.before.args in ap (λ (k : ℕ). kind_f a.e k a.w.z) (sym c.in-1.keys2)
 
-returns-3 : tie.Need-returns-3
-returns-3 c = let a = c.before.before.args in c.takes-integer.ensures ∙ ap (λ (k : ℕ). kind_f a.e k a.w.z) (sym c.before.match.keys3)
+returns-3 : tie.Need-returns-in-2
+returns-3 c = let a = c.before.before.args in c.takes_integer.ensures ∙ ap (λ (k : ℕ). kind_f a.e k a.w.z) (sym c.before.in-2.keys3)
 
-returns-4 : tie.Need-returns-4
-returns-4 c = let a = c.before.args in ap (λ (k : ℕ). kind_f a.e k a.w.z) (sym c.match.keys4)
+returns-4 : tie.Need-returns-in-3
+returns-4 c = let a = c.before.args in ap (λ (k : ℕ). kind_f a.e k a.w.z) (sym c.in-3.keys4)
 
-returns-5 : tie.Need-returns-5
-returns-5 c = let a = c.before.before.args in c.takes-text.ensures ∙ ap (λ (k : ℕ). kind_f a.e k a.w.z) (sym c.before.match.keys5)
+returns-5 : tie.Need-returns-in-4
+returns-5 c = let a = c.before.before.args in c.takes_text.ensures ∙ ap (λ (k : ℕ). kind_f a.e k a.w.z) (sym c.before.in-4.keys5)
 
-returns-6 : tie.Need-returns-6
-returns-6 c = let n = c.match.rest in simp (ne_eqb _ 0 n.0.0.0.0.1, ne_eqb _ 1 n.0.0.0.1, ne_eqb _ 2 n.0.0.1, ne_eqb _ 3 n.0.1, ne_eqb _ 4 n.1)
+returns-6 : tie.Need-returns-in_default
+returns-6 c = let n = c.in_default.rest in simp (ne_eqb _ 0 n.0.0.0.0.1, ne_eqb _ 1 n.0.0.0.1, ne_eqb _ 2 n.0.0.1, ne_eqb _ 3 n.0.1, ne_eqb _ 4 n.1)
 
-pub is-kind-spec : {M : Type 1} → statement M
-is-kind-spec =
+pub is_kind_spec : {M : Type 1} → statement M
+is_kind_spec =
     tie.close
     (tie.spec
     (λ c κs. search rules) (λ c κs. search rules)

@@ -8,15 +8,15 @@ use borrow.Author.Rules.{rules}
 use Rattle.values.proofs.list.size.Statement.{statement}
 use Rattle.values.proofs.list.size.Tie as tie
 
-returns : tie.Need-returns
+returns : tie.Need-returns-then-n-lt-LIST_LIMIT
 returns c =
     let e : length c.before.args.l.items ≡ 16 = search (rules, unmap) in
     (sym (length-take-le c.before.args.l.n c.before.args.l.items (omega arith)), omega arith, omega arith)
 
-returns-2 : tie.Need-returns-2
+returns-2 : tie.Need-returns-else-n-lt-LIST_LIMIT
 returns-2 c =
     let e : length c.before.args.l.items ≡ 16 = search (rules, unmap) in
     (sym (ap length (take_all c.before.args.l.n c.before.args.l.items (omega arith)) ∙ e), omega arith, omega arith)
 
-pub size-spec : {M : Type 1} → statement M
-size-spec = tie.close (tie.spec returns returns-2)
+pub size_spec : {M : Type 1} → statement M
+size_spec = tie.close (tie.spec returns returns-2)

@@ -12,18 +12,18 @@ use Rattle.values.proofs.scalar.real.Tie as tie
 
 narrow-requires : tie.Need-narrow-requires
 narrow-requires c κs =
-    let e : leb (nat_abs c.before.before.args.w.z) real_limit ≡ true = sym c.before.real-fits.ensures ∙ c.if1.true in
+    let e : leb (nat_abs c.before.before.args.w.z) real_limit ≡ true = sym c.before.real_fits.ensures ∙ c.if-real_fits.true in
     omega (arith, leb-true (nat_abs c.before.before.args.w.z) real_limit e)
 
-returns : tie.Need-returns
+returns : tie.Need-returns-then-real_fits
 returns c =
-    let e : leb (nat_abs c.before.before.before.args.w.z) real_limit ≡ true = sym c.before.before.real-fits.ensures ∙ c.before.if1.true in
+    let e : leb (nat_abs c.before.before.before.args.w.z) real_limit ≡ true = sym c.before.before.real_fits.ensures ∙ c.before.if-real_fits.true in
     rw e (rw c.narrow.ensures)
 
-returns-2 : tie.Need-returns-2
+returns-2 : tie.Need-returns-else-real_fits
 returns-2 c =
-    let e : leb (nat_abs c.before.before.args.w.z) real_limit ≡ false = sym c.before.real-fits.ensures ∙ c.if1.false in
+    let e : leb (nat_abs c.before.before.args.w.z) real_limit ≡ false = sym c.before.real_fits.ensures ∙ c.if-real_fits.false in
     rw e
 
-pub real-spec : {M : Type 1} → statement M
-real-spec = tie.close (tie.spec (λ c κs. search rules) narrow-requires returns returns-2)
+pub real_spec : {M : Type 1} → statement M
+real_spec = tie.close (tie.spec (λ c κs. search rules) narrow-requires returns returns-2)

@@ -6,5 +6,5 @@ use Rattle.why.proofs.ahead.ahead.Tie as tie
 returns : tie.Need-returns
 returns c = cc
 
-pub ahead-spec : {M : Type 1} → statement M
-ahead-spec = tie.close (tie.spec (λ c κs. search rules) (λ c κs. search rules) (λ c κs. search rules) (λ c κs. search rules) (λ c κs. search rules) returns)
+pub ahead_spec : {M : Type 1} → statement M
+ahead_spec = tie.close (tie.spec (λ c κs. search rules) (λ c κs. search rules) (λ c κs. search rules) (λ c κs. search rules) (λ c κs. search rules) returns)

@@ -4,11 +4,11 @@ use borrow.Author.Rules.{rules}
 use Rattle.why.proofs.condition.tasks.Statement.{statement}
 use Rattle.why.proofs.condition.tasks.Tie as tie
 
-abbrev invariant-loop : tie.invariant-loop
+abbrev invariant-loop : tie.invariant-loop-t
 invariant-loop rows parts texts plan state e any m told₀ t₀ told t = Unit {0}
 
-abbrev decreases-loop : tie.decreases-loop
+abbrev decreases-loop : tie.decreases-loop-t
 decreases-loop rows parts texts plan state e any m told₀ t₀ told t = 32 - t
 
-pub tasks-spec : {M : Type 1} → statement M
-tasks-spec = tie.close (tie.spec invariant-loop decreases-loop (λ c κs. search rules) (λ c. search rules) (λ c. search rules) (λ c κs. search rules) (λ c. search rules) (λ c. search rules) (λ c. search rules) (λ c. search rules))
+pub tasks_spec : {M : Type 1} → statement M
+tasks_spec = tie.close (tie.spec invariant-loop decreases-loop (λ c κs. search rules) (λ c. search rules) (λ c. search rules) (λ c κs. search rules) (λ c. search rules) (λ c. search rules) (λ c. search rules) (λ c. search rules))

@@ -6,5 +6,5 @@ use Rattle.why.proofs.leaving.is_due.Tie as tie
 returns : tie.Need-returns
 returns c = cc
 
-pub is-due-spec : {M : Type 1} → statement M
-is-due-spec = tie.close (tie.spec (λ c κs. search rules) (λ c κs. search rules) (λ c κs. search rules) (λ c κs. search rules) (λ c κs. search rules) returns)
+pub is_due_spec : {M : Type 1} → statement M
+is_due_spec = tie.close (tie.spec (λ c κs. search rules) (λ c κs. search rules) (λ c κs. search rules) (λ c κs. search rules) (λ c κs. search rules) returns)

@@ -8,20 +8,20 @@ use borrow.Author.Rules.{rules}
 use Rattle.why.proofs.mentions.named.Statement.{statement}
 use Rattle.why.proofs.mentions.named.Tie as tie
 
-returns : tie.Need-returns
+returns : tie.Need-returns-then-k-ge-LIMIT
 returns c =
     let a = c.before.before.before.before.before.before.before.before.before.args in
-    task_far a.texts.now (part_of a.plan.now 1193 (get_or a.plan.now 0 0 - 1)) (get_or a.parts.now (a.p * 4 + 3) 0) (c.before.before.before.part.ensures ∙ ap (part_of a.plan.now 1193) (c.before.before.before.before.others.ensures ∙ ap (λ (y : ℕ). y - 1) c.before.before.before.before.before.number.ensures)) c.before.before.load.ensures c.before.find.ensures c.if1.true
+    task_far a.texts.now (part_of a.plan.now 1193 (get_or a.plan.now 0 0 - 1)) (get_or a.parts.now (a.p * 4 + 3) 0) (c.before.before.before.part-names.ensures ∙ ap (part_of a.plan.now 1193) (c.before.before.before.before.others-n.ensures ∙ ap (λ (y : ℕ). y - 1) c.before.before.before.before.before.number.ensures)) c.before.before.load.ensures c.before.find-k.ensures c.if-k-ge-LIMIT.true
 
-returns-2 : tie.Need-returns-2
+returns-2 : tie.Need-returns-then-names-k
 returns-2 c =
     let a = c.before.before.before.before.before.before.before.before.before.before.args in
-    task_none a.texts.now (part_of a.plan.now 1193 (get_or a.plan.now 0 0 - 1)) (get_or a.parts.now (a.p * 4 + 3) 0) (c.before.before.before.before.part.ensures ∙ ap (part_of a.plan.now 1193) (c.before.before.before.before.before.others.ensures ∙ ap (λ (y : ℕ). y - 1) c.before.before.before.before.before.before.number.ensures)) c.before.before.before.load.ensures c.before.before.find.ensures c.if2.true
+    task_none a.texts.now (part_of a.plan.now 1193 (get_or a.plan.now 0 0 - 1)) (get_or a.parts.now (a.p * 4 + 3) 0) (c.before.before.before.before.part-names.ensures ∙ ap (part_of a.plan.now 1193) (c.before.before.before.before.before.others-n.ensures ∙ ap (λ (y : ℕ). y - 1) c.before.before.before.before.before.before.number.ensures)) c.before.before.before.load.ensures c.before.before.find-k.ensures c.if-names-k.true
 
-returns-3 : tie.Need-returns-3
+returns-3 : tie.Need-returns
 returns-3 c =
     let a = c.before.before.before.before.before.before.before.before.before.before.args in
-    task_here a.texts.now (part_of a.plan.now 1193 (get_or a.plan.now 0 0 - 1)) (get_or a.parts.now (a.p * 4 + 3) 0) (c.before.before.before.before.part.ensures ∙ ap (part_of a.plan.now 1193) (c.before.before.before.before.before.others.ensures ∙ ap (λ (y : ℕ). y - 1) c.before.before.before.before.before.before.number.ensures)) c.before.before.before.load.ensures c.before.before.find.ensures c.before.if1.false c.if2.false
+    task_here a.texts.now (part_of a.plan.now 1193 (get_or a.plan.now 0 0 - 1)) (get_or a.parts.now (a.p * 4 + 3) 0) (c.before.before.before.before.part-names.ensures ∙ ap (part_of a.plan.now 1193) (c.before.before.before.before.before.others-n.ensures ∙ ap (λ (y : ℕ). y - 1) c.before.before.before.before.before.before.number.ensures)) c.before.before.before.load.ensures c.before.before.find-k.ensures c.before.if-k-ge-LIMIT.false c.if-names-k.false
 
-pub named-spec : {M : Type 1} → statement M
-named-spec = tie.close (tie.spec (λ c κs. search rules) (λ c κs. search rules) (λ c. search rules) (λ c κs. search rules) (λ c κs. search rules) (λ c. search rules) (λ c κs. search rules) returns returns-2 (λ c. search rules) returns-3)
+pub named_spec : {M : Type 1} → statement M
+named_spec = tie.close (tie.spec (λ c κs. search rules) (λ c κs. search rules) (λ c. search rules) (λ c κs. search rules) (λ c κs. search rules) (λ c. search rules) (λ c κs. search rules) returns returns-2 (λ c. search rules) returns-3)

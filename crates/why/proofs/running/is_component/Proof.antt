@@ -9,11 +9,11 @@ use borrow.Author.Rules.{rules}
 use Rattle.why.proofs.running.is_component.Statement.{statement}
 use Rattle.why.proofs.running.is_component.Tie as tie
 
-returns : tie.Need-returns
-returns c = let a = c.before.before.before.args in sym (ap (λ (x : ℕ). eqb x (a.t + 1)) (sym c.before.cell.ensures ∙ c.if1.true) ∙ ne_eqb 0 (a.t + 1) (λ e. omega arith))
+returns : tie.Need-returns-then-x-eq0
+returns c = let a = c.before.before.before.args in sym (ap (λ (x : ℕ). eqb x (a.t + 1)) (sym c.before.cell-x.ensures ∙ c.if-x-eq0.true) ∙ ne_eqb 0 (a.t + 1) (λ e. omega arith))
 
-returns-2 : tie.Need-returns-2
-returns-2 c = let a = c.before.before.before.args in next_is c.before.cell.result a.t c.if1.false ∙ ap (λ (x : ℕ). eqb x (a.t + 1)) c.before.cell.ensures
+returns-2 : tie.Need-returns
+returns-2 c = let a = c.before.before.before.args in next_is c.before.cell-x.result a.t c.if-x-eq0.false ∙ ap (λ (x : ℕ). eqb x (a.t + 1)) c.before.cell-x.ensures
 
-pub is-component-spec : {M : Type 1} → statement M
-is-component-spec = tie.close (tie.spec (λ c κs. search rules) returns (λ c. search rules) returns-2)
+pub is_component_spec : {M : Type 1} → statement M
+is_component_spec = tie.close (tie.spec (λ c κs. search rules) returns (λ c. search rules) returns-2)

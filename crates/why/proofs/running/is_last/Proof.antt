@@ -6,5 +6,5 @@ use Rattle.why.proofs.running.is_last.Tie as tie
 returns : tie.Need-returns
 returns c = cc
 
-pub is-last-spec : {M : Type 1} → statement M
-is-last-spec = tie.close (tie.spec (λ c κs. search rules) (λ c κs. search rules) (λ c κs. search rules) returns)
+pub is_last_spec : {M : Type 1} → statement M
+is_last_spec = tie.close (tie.spec (λ c κs. search rules) (λ c κs. search rules) (λ c κs. search rules) returns)

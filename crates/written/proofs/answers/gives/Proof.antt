@@ -8,8 +8,8 @@ use Rattle.written.proofs.answers.gives.Tie as tie
 returns : tie.Need-returns
 returns c =
     let a = c.before.before.before.before.before.before.before.before.before.before.before.before.before.before.args in
-    answered (meaning_v a.bytes.now a.v) c.before.before.before.before.before.before.before.before.before.before.type_name.ensures c.before.before.before.before.before.before.byte.ensures c.before.before.value.ensures
+    answered (meaning_v a.bytes.now a.v) c.before.before.before.before.before.before.before.before.before.before.type_name-p.ensures c.before.before.before.before.before.before.byte-q.ensures c.before.before.value.ensures
 
-pub gives-spec : {M : Type 1} → statement M
-gives-spec =
+pub gives_spec : {M : Type 1} → statement M
+gives_spec =
     tie.close (tie.spec (λ c κs. search rules) (λ c κs. search rules) (λ c κs. search rules) (λ c. search rules) returns)

@@ -5,8 +5,8 @@ use Rattle.written.proofs.answers.refused.Statement.{statement}
 use Rattle.written.proofs.answers.refused.Tie as tie
 
 returns : tie.Need-returns
-returns c = append_then c.before.before.before.before.before.before.word.ensures c.before.before.number.ensures
+returns c = append_then c.before.before.before.before.before.before.word-p.ensures c.before.before.number.ensures
 
-pub refused-spec : {M : Type 1} → statement M
-refused-spec =
+pub refused_spec : {M : Type 1} → statement M
+refused_spec =
     tie.close (tie.spec (λ c. search rules) (λ c κs. search rules) (λ c κs. search rules) (λ c. search rules) returns)

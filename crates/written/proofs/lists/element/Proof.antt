@@ -5,9 +5,9 @@ use Rattle.written.proofs.lists.element.Statement.{statement}
 use Rattle.written.proofs.lists.element.Tie as tie
 
 returns : tie.Need-returns
-returns c = append_then c.before.before.before.before.before.before.before.word.ensures (rw c.before.before.before.before.get.ensures at c.before.before.scalar.ensures)
+returns c = append_then c.before.before.before.before.before.before.before.word-p.ensures (rw c.before.before.before.before.get.ensures at c.before.before.scalar.ensures)
 
-pub element-spec : {M : Type 1} → statement M
-element-spec =
+pub element_spec : {M : Type 1} → statement M
+element_spec =
     tie.close
     (tie.spec (λ c. search rules) (λ c κs. search rules) (λ c κs. search rules) (λ c κs. search rules) (λ c. search rules) returns)

@@ -12,33 +12,33 @@ use borrow.Author.Rules.{rules}
 use Rattle.written.proofs.lists.more.Statement.{statement}
 use Rattle.written.proofs.lists.more.Tie as tie
 
-abbrev invariant-loop : tie.invariant-loop
+abbrev invariant-loop : tie.invariant-loop-i
 invariant-loop bytes l out₀ o n p₀ i₀ out p i =
     (n ≡ size_of l) × (n ≤ list_limit) × (length out ≡ length out₀) × Begun out₀ out o p (more_written (drop i (meaning_l bytes l))) (more_written (drop 1 (meaning_l bytes l)))
 
-abbrev decreases-loop : tie.decreases-loop
+abbrev decreases-loop : tie.decreases-loop-i
 decreases-loop bytes l out₀ o n p₀ i₀ out p i = n - i
 
-loop-holds : tie.Need-loop-init invariant-loop decreases-loop
+loop-holds : tie.Need-loop-i-init invariant-loop decreases-loop
 loop-holds c = (search rules, search rules, search rules, begun_none _ _ _)
 
-loop-again : tie.Need-loop-preserved invariant-loop decreases-loop
+loop-again : tie.Need-loop-i-preserved invariant-loop decreases-loop
 loop-again c =
     let a = c.before.before.before.before.before.before.before.before.before.args in
-    let l = c.before.before.before.before.before.loop in
-    let e = c.before.before.element.ensures in
+    let l = c.before.before.before.before.before.loop-i in
+    let e = c.before.before.element-p.ensures in
     let more : l.i < size_of a.l = omega arith in
     (search rules, search rules, search rules, begun_more (rw (more_step a.bytes.now a.l l.i more) at l.invariant.3) e)
 
 returns : tie.Need-returns invariant-loop decreases-loop
 returns c =
     let a = c.before.before.before.before.before.before.before.before.before.args in
-    let l = c.before.before.before.before.before.loop in
+    let l = c.before.before.before.before.before.loop-i in
     let done : size_of a.l ≤ l.i = omega arith in
     begun_all (rw (more_end a.bytes.now a.l l.i done) at l.invariant.3) c.before.before.byte.ensures
 
-pub more-spec : {M : Type 1} → statement M
-more-spec =
+pub more_spec : {M : Type 1} → statement M
+more_spec =
     tie.close
     (tie.spec
     invariant-loop

@@ -8,15 +8,15 @@ use borrow.Author.Rules.{rules}
 use Rattle.written.proofs.lists.value.Statement.{statement}
 use Rattle.written.proofs.lists.value.Tie as tie
 
-returns : tie.Need-returns
+returns : tie.Need-returns-then-v
 returns c =
     let a = c.before.before.before.before.before.before.before.before.args in
-    appends_as (ap (λ (b : Bool). value_written (valued b (meaning a.bytes.now a.v.one) (meaning_l a.bytes.now a.v.list))) c.before.before.before.before.before.if1.true) c.before.before.list.ensures
+    appends_as (ap (λ (b : Bool). value_written (valued b (meaning a.bytes.now a.v.one) (meaning_l a.bytes.now a.v.list))) c.before.before.before.before.before.if-v.true) c.before.before.list.ensures
 
-returns-2 : tie.Need-returns-2
+returns-2 : tie.Need-returns
 returns-2 c =
     let a = c.before.before.before.before.before.before.before.args in
-    appends_as (ap (λ (b : Bool). value_written (valued b (meaning a.bytes.now a.v.one) (meaning_l a.bytes.now a.v.list))) c.before.before.before.before.if1.false) c.before.before.scalar.ensures
+    appends_as (ap (λ (b : Bool). value_written (valued b (meaning a.bytes.now a.v.one) (meaning_l a.bytes.now a.v.list))) c.before.before.before.before.if-v.false) c.before.before.scalar.ensures
 
 pub value_spec : {M : Type 1} → statement M
 value_spec =

@@ -8,14 +8,14 @@ use borrow.Author.Rules.{rules}
 use Rattle.written.proofs.scalars.truth.Statement.{statement}
 use Rattle.written.proofs.scalars.truth.Tie as tie
 
-returns : tie.Need-returns
-returns c = appends_as (ap (λ (b : Bool). scalar_written (paper.truth b)) c.before.before.before.before.before.if1.true) c.before.before.word.ensures
+returns : tie.Need-returns-then-b
+returns c = appends_as (ap (λ (b : Bool). scalar_written (paper.truth b)) c.before.before.before.before.before.if-b.true) c.before.before.word.ensures
 
-returns-2 : tie.Need-returns-2
-returns-2 c = appends_as (ap (λ (b : Bool). scalar_written (paper.truth b)) c.before.before.before.before.before.if1.false) c.before.before.word2.ensures
+returns-2 : tie.Need-returns
+returns-2 c = appends_as (ap (λ (b : Bool). scalar_written (paper.truth b)) c.before.before.before.before.before.if-b.false) c.before.before.word-2.ensures
 
-pub truth-spec : {M : Type 1} → statement M
-truth-spec =
+pub truth_spec : {M : Type 1} → statement M
+truth_spec =
     tie.close
     (tie.spec
     (λ c. search rules) (λ c κs. search rules) (λ c. search rules)
