@@ -156,6 +156,7 @@ small = small_list {l = integer (pos 12) ∷ integer (pos 3) ∷ integer (pos 15
     elements i s at_first = small_integer {n = pos 12} (omega arith)
     elements i s (at_later at_first) = small_integer {n = pos 3} (omega arith)
     elements i s (at_later (at_later at_first)) = small_integer {n = pos 15} (omega arith)
+    elements i s (at_later (at_later (at_later h))) = elim h [ ]
 
 told_kept : Kept fluke told
 told_kept = sets_kept asked_kept (add_mild {k = a_setof_integer} asked_kept is_item is_set integers small) (adds_value 0 depths asked)

@@ -16,7 +16,7 @@ use Rattle.paper_guideline.specs.Refusals.{Read, Answer, loads, refused, Answers
 use Rattle.paper_guideline.specs.Laws.RefusalLaws.{one_answer}
 use Rattle.paper_rows.specs.Table
 use Table.{Allowed, allowed_confirmed, allowed_value, allowed_requested, allowed_trigger_active}
-use Table.{Kind, kinds, task, data_item, Component, ◌№◌, Property, properties, state, cycle_count, parent_plan, trigger, type, value, requested, confirmed, trigger_active, Class}
+use Table.{Kind, kinds, task, data_item, Component, ◌№◌, Property, properties, state, cycle_count, nbr_cycles_value, parent_plan, trigger, type, value, requested, confirmed, trigger_active, Class}
 use Table.{RowValue, value_is, state_is, type_is, time_is, truth_row, text_row, component_is, integer_row, Table, Contains, TaskId, DataItemId}
 use Rattle.paper_rows.specs.Bare.{bare_guideline}
 use Rattle.paper_rows.specs.Load.{Adds, attribute_5_trigger, task_4, data_item_3, Initial}
@@ -144,15 +144,36 @@ sets_kept {N = N} k mild sets = after_kept k mild.harmless (λ c p. after (sets 
 pub confirm_mild : {g : List TopLevel} {t : Table} {T : ℕ} → Kept g t → TaskId t T → Mild g t (ConfirmTask T)
 confirm_mild {g} {t} {T} k i =
     record {
-      never_none = λ h. elim h [ ];
-      harmless = record { moving = moving; there = there; allowed = allowed; state_row = λ h. absurd (elim h [ ]); no_time = λ h. elim h [ ]; no_number = λ h. elim h [ ]; typed = λ h. absurd (elim h [ ]) };
-      no_state = λ h. elim h [ ];
-      no_count = λ h. elim h [ ];
-      no_parent = λ h. elim h [ ];
-      no_time = λ h. elim h [ ];
-      small = λ h. absurd (elim h [ ]);
+      never_none = never_none;
+      harmless = record { moving = moving; there = there; allowed = allowed; state_row = λ h. absurd (no_state h); no_time = no_time; no_number = no_number; typed = λ h. absurd (no_value h) };
+      no_state = no_state;
+      no_count = no_count;
+      no_parent = no_parent;
+      no_time = no_time;
+      small = λ h. absurd (no_value h);
     }
   where
+    never_none : {c : Component} {p : Property} → ¬ ConfirmTask T c p none
+    never_none h = elim h [ ]
+
+    no_state : {c : Component} {o : Option RowValue} → ¬ ConfirmTask T c state o
+    no_state h = elim h [ ]
+
+    no_count : {c : Component} {o : Option RowValue} → ¬ ConfirmTask T c cycle_count o
+    no_count h = elim h [ ]
+
+    no_parent : {c : Component} {o : Option RowValue} → ¬ ConfirmTask T c parent_plan o
+    no_parent h = elim h [ ]
+
+    no_time : {c : Component} {p : Property} {n : ℕ} → ¬ ConfirmTask T c p (some (time_is n))
+    no_time h = elim h [ ]
+
+    no_number : {c : Component} {o : Option RowValue} → ¬ ConfirmTask T c nbr_cycles_value o
+    no_number h = elim h [ ]
+
+    no_value : {c : Component} {o : Option RowValue} → ¬ ConfirmTask T c value o
+    no_value h = elim h [ ]
+
     moving : {c : Component} {p : Property} {r : RowValue} → ConfirmTask T c p (some r) → Moving c p
     moving confirm_2 = confirmed_moves
 
@@ -192,15 +213,33 @@ item_defined (data_item_3 h) = item_there h
 pub add_mild : {g : List TopLevel} {t : Table} {d : ℕ} {w : Value} {k : Declared} → Kept g t → DataItemId t d → Contains t (data_item № d) type (type_is k) → Of w (inferred k) → Small w → Mild g t (AddDataValue d w)
 add_mild {g} {t} {d} {w} {k} q i h o s =
     record {
-      never_none = λ x. elim x [ ];
-      harmless = record { moving = moving; there = there; allowed = allowed; state_row = λ x. absurd (elim x [ ]); no_time = λ x. elim x [ ]; no_number = λ x. elim x [ ]; typed = typed };
-      no_state = λ x. elim x [ ];
-      no_count = λ x. elim x [ ];
-      no_parent = λ x. elim x [ ];
-      no_time = λ x. elim x [ ];
+      never_none = never_none;
+      harmless = record { moving = moving; there = there; allowed = allowed; state_row = λ x. absurd (no_state x); no_time = no_time; no_number = no_number; typed = typed };
+      no_state = no_state;
+      no_count = no_count;
+      no_parent = no_parent;
+      no_time = no_time;
       small = small;
     }
   where
+    never_none : {c : Component} {p : Property} → ¬ AddDataValue d w c p none
+    never_none h = elim h [ ]
+
+    no_state : {c : Component} {o : Option RowValue} → ¬ AddDataValue d w c state o
+    no_state h = elim h [ ]
+
+    no_count : {c : Component} {o : Option RowValue} → ¬ AddDataValue d w c cycle_count o
+    no_count h = elim h [ ]
+
+    no_parent : {c : Component} {o : Option RowValue} → ¬ AddDataValue d w c parent_plan o
+    no_parent h = elim h [ ]
+
+    no_time : {c : Component} {p : Property} {n : ℕ} → ¬ AddDataValue d w c p (some (time_is n))
+    no_time h = elim h [ ]
+
+    no_number : {c : Component} {o : Option RowValue} → ¬ AddDataValue d w c nbr_cycles_value o
+    no_number h = elim h [ ]
+
     moving : {c : Component} {p : Property} {r : RowValue} → AddDataValue d w c p (some r) → Moving c p
     moving add_2a = value_moves
     moving add_2b = requested_moves
@@ -222,15 +261,36 @@ add_mild {g} {t} {d} {w} {k} q i h o s =
 pub trigger_mild : {g : List TopLevel} {t : Table} (trig : List ℕ) → Kept g t → Mild g t (SendTrigger t trig)
 trigger_mild {g} {t} trig k =
     record {
-      never_none = λ h. elim h [ ];
-      harmless = record { moving = moving; there = there; allowed = allowed; state_row = λ h. absurd (elim h [ ]); no_time = λ h. elim h [ ]; no_number = λ h. elim h [ ]; typed = λ h. absurd (elim h [ ]) };
-      no_state = λ h. elim h [ ];
-      no_count = λ h. elim h [ ];
-      no_parent = λ h. elim h [ ];
-      no_time = λ h. elim h [ ];
-      small = λ h. absurd (elim h [ ]);
+      never_none = never_none;
+      harmless = record { moving = moving; there = there; allowed = allowed; state_row = λ h. absurd (no_state h); no_time = no_time; no_number = no_number; typed = λ h. absurd (no_value h) };
+      no_state = no_state;
+      no_count = no_count;
+      no_parent = no_parent;
+      no_time = no_time;
+      small = λ h. absurd (no_value h);
     }
   where
+    never_none : {c : Component} {p : Property} → ¬ SendTrigger t trig c p none
+    never_none h = elim h [ ]
+
+    no_state : {c : Component} {o : Option RowValue} → ¬ SendTrigger t trig c state o
+    no_state h = elim h [ ]
+
+    no_count : {c : Component} {o : Option RowValue} → ¬ SendTrigger t trig c cycle_count o
+    no_count h = elim h [ ]
+
+    no_parent : {c : Component} {o : Option RowValue} → ¬ SendTrigger t trig c parent_plan o
+    no_parent h = elim h [ ]
+
+    no_time : {c : Component} {p : Property} {n : ℕ} → ¬ SendTrigger t trig c p (some (time_is n))
+    no_time h = elim h [ ]
+
+    no_number : {c : Component} {o : Option RowValue} → ¬ SendTrigger t trig c nbr_cycles_value o
+    no_number h = elim h [ ]
+
+    no_value : {c : Component} {o : Option RowValue} → ¬ SendTrigger t trig c value o
+    no_value h = elim h [ ]
+
     moving : {c : Component} {p : Property} {r : RowValue} → SendTrigger t trig c p (some r) → Moving c p
     moving (trigger_1 h q l) = trigger_moves
 
@@ -312,10 +372,10 @@ replaced_one f (kept n) (kept m) = refl
 replaces_one : {N : Sets} {t a b : Table} → ((c : Component) (p : Property) (r q : Option RowValue) → N c p r → N c p q → r ≡ q) → Replaces N t a → Replaces N t b → a ≡ b
 replaces_one f h k = fun_ext (λ c. fun_ext (λ p. replaced_one (f c p) (h c p) (k c p)))
 
-confirm_one : {T : ℕ} (c : Component) (p : Property) (r q : Option RowValue) → ConfirmTask T c p r → ConfirmTask T c p q → r ≡ q
+confirm_one : {T U : ℕ} (c : Component) (p : Property) (r q : Option RowValue) → ConfirmTask T c p r → ConfirmTask U c p q → r ≡ q
 confirm_one c p r q confirm_2 confirm_2 = refl
 
-add_one : {d : ℕ} {w : Value} (c : Component) (p : Property) (r q : Option RowValue) → AddDataValue d w c p r → AddDataValue d w c p q → r ≡ q
+add_one : {d e : ℕ} {w : Value} (c : Component) (p : Property) (r q : Option RowValue) → AddDataValue d w c p r → AddDataValue e w c p q → r ≡ q
 add_one c p r q add_2a add_2a = refl
 add_one c p r q add_2b add_2b = refl
 

@@ -68,9 +68,12 @@ confirm_listed T = listed_as to back (listed_only _ _ _)
     back c p r confirm_2 = it
 
 pub confirms : (T : ℕ) (t : Table) → Replaces (ConfirmTask T) t (enact_f (confirm_rows T) t)
-confirms T t = sets (ConfirmTask T) (confirm_listed T) (λ c p h. elim h [ ]) once t
+confirms T t = sets (ConfirmTask T) (confirm_listed T) never_none once t
   where
-    once : (c : Component) (p : Property) (r q : RowValue) → ConfirmTask T c p (some r) → ConfirmTask T c p (some q) → q ≡ r
+    never_none : (c : Component) (p : Property) → ¬ ConfirmTask T c p none
+    never_none c p h = elim h [ ]
+
+    once : {U : ℕ} (c : Component) (p : Property) (r q : RowValue) → ConfirmTask T c p (some r) → ConfirmTask U c p (some q) → q ≡ r
     once c p r q confirm_2 confirm_2 = refl
 
 abbrev pub add_rows : ℕ → Value → List Row
@@ -88,9 +91,12 @@ add_listed d w = listed_as to back (listed_or (listed_only _ _ _) (listed_only _
     back c p r add_2b = inr it
 
 pub adds_value : (d : ℕ) (w : Value) (t : Table) → Replaces (AddDataValue d w) t (enact_f (add_rows d w) t)
-adds_value d w t = sets (AddDataValue d w) (add_listed d w) (λ c p h. elim h [ ]) once t
+adds_value d w t = sets (AddDataValue d w) (add_listed d w) never_none once t
   where
-    once : (c : Component) (p : Property) (r q : RowValue) → AddDataValue d w c p (some r) → AddDataValue d w c p (some q) → q ≡ r
+    never_none : (c : Component) (p : Property) → ¬ AddDataValue d w c p none
+    never_none c p h = elim h [ ]
+
+    once : {e : ℕ} (c : Component) (p : Property) (r q : RowValue) → AddDataValue d w c p (some r) → AddDataValue e w c p (some q) → q ≡ r
     once c p r q add_2a add_2a = refl
     once c p r q add_2b add_2b = refl
 
@@ -125,8 +131,11 @@ module _ {g : List TopLevel} {t : Table} (held : Kept g t) (trig : List ℕ) whe
       back c p r (trigger_1 {T} {P} a b d) = let k = its (adds held (λ x. elim x [ ]) a) in (T, k.0, k.1, ((a, (P, b, d)), it))
 
   pub triggers : Replaces (SendTrigger t trig) t (enact_f (trigger_rows g t trig) t)
-  triggers = sets (SendTrigger t trig) trigger_listed (λ c p h. elim h [ ]) once t
+  triggers = sets (SendTrigger t trig) trigger_listed never_none once t
     where
+      never_none : (c : Component) (p : Property) → ¬ SendTrigger t trig c p none
+      never_none c p h = elim h [ ]
+
       once : (c : Component) (p : Property) (r q : RowValue) → SendTrigger t trig c p (some r) → SendTrigger t trig c p (some q) → q ≡ r
       once c p r q (trigger_1 a b d) (trigger_1 x y z) = refl
 
@@ -171,6 +180,7 @@ small_alarm = record { short = omega arith; ascii = λ {i} {b} h. ascii h }
     ascii (at_later (at_later at_first)) = omega arith
     ascii (at_later (at_later (at_later at_first))) = omega arith
     ascii (at_later (at_later (at_later (at_later at_first)))) = omega arith
+    ascii (at_later (at_later (at_later (at_later (at_later h))))) = elim h [ ]
 
 pub record Triggered : Type 0 where
   pub first : Calls (run 256 1024) (state_of triggered (look_f (load_f triggered))) (ran (ends quiet 1)) (state_of triggered waiting)

@@ -5,7 +5,8 @@ use Rattle.std.proofs.Common.{sym, ap, subst, ◌∙◌, inl, inr}
 use Rattle.std.proofs.Math.Option.{some}
 use Rattle.paper_expressions.specs.Laws.Search.{no_clash}
 use Rattle.paper_expressions.specs.Values.{Value}
-use Rattle.paper_rows.specs.Table.{Assigns, Component, ◌№◌, task, data_item, Property, state, value, requested, cycle_count, RowValue, value_is, truth_row, integer_row, Table, Contains}
+use Rattle.paper_rows.specs.Table.{Assigns, Component, ◌№◌, task, data_item, Property, state, value, requested, cycle_count, completed_time, RowValue, value_is, truth_row, integer_row, Table, Contains}
+use Rattle.paper_engine.specs.Conditions.{CycleConditions}
 use Rattle.paper_engine.specs.Operations
 use Operations.{Clause, §8·5·1-1, §8·5·1-2, §8·5·1-3, §8·5·1-4, Review, review_1, review_2, review_3, review_4, review_5}
 use Operations.{Initialise, initialise_1, initialise_2, initialise_3, initialise_4, initialise_5, initialise_9a, InitialiseSource, initialise_source}
@@ -54,7 +55,7 @@ assignment_place (assertion_2 h (assertion_1 v d e s)) = of_value
 source_place : {t : Table} {T : ℕ} {S c : Component} {p : Property} {r : RowValue} → InitialiseSource t S c p r → Place T c p r
 source_place (initialise_source h n) = of_request
 
-initialise_same : {t : Table} {now T : ℕ} {c : Component} {p : Property} {r q : RowValue} → Initialise t now T c p r → Initialise t now T c p q → r ≡ q
+initialise_same : {t : Table} {now T U : ℕ} {c : Component} {p : Property} {r q : RowValue} → Initialise t now T c p r → Initialise t now U c p q → r ≡ q
 initialise_same initialise_1 initialise_1 = refl
 initialise_same initialise_2 initialise_2 = refl
 initialise_same initialise_3 initialise_3 = refl
@@ -69,7 +70,7 @@ not_of_source h = elim h [ ]
 request_same : {t : Table} {now T : ℕ} {S c : Component} {p : Property} {r q : RowValue} → InitialiseSource t S c p r → Start t now T c p q → r ≡ q
 request_same (initialise_source h n) (start_9 a b i (initialise_source k m)) = refl
 
-start_same : {t : Table} {now T : ℕ} {c : Component} {p : Property} {r q : RowValue} → Start t now T c p r → Start t now T c p q → r ≡ q
+start_same : {t : Table} {now T U : ℕ} {c : Component} {p : Property} {r q : RowValue} → Start t now T c p r → Start t now U c p q → r ≡ q
 start_same start_1 start_1 = refl
 start_same start_1 (start_9 a b i h) = absurd (not_of_source h)
 start_same start_2 start_2 = refl
@@ -84,12 +85,22 @@ start_same (start_9 a b i h) k = request_same h k
 start_same (start_12 h n) (start_12 k m) = refl
 start_same (start_12 h n) (start_9 a b i k) = absurd (not_of_source k)
 
-discard_same : {t : Table} {now T : ℕ} {c : Component} {p : Property} {r q : RowValue} → Discard t now T c p r → Discard t now T c p q → r ≡ q
+discard_same : {t : Table} {now T U : ℕ} {c : Component} {p : Property} {r q : RowValue} → Discard t now T c p r → Discard t now U c p q → r ≡ q
 discard_same discard_1 discard_1 = refl
 discard_same discard_3 discard_3 = refl
 
-start_at_same : {t : Table} {now T : ℕ} {c : Component} {p : Property} {r q : RowValue} → SetStartAt t now T c p r → SetStartAt t now T c p q → r ≡ q
+start_at_same : {t : Table} {now T U : ℕ} {c : Component} {p : Property} {r q : RowValue} → SetStartAt t now T c p r → SetStartAt t now U c p q → r ≡ q
 start_at_same (start_at_2 n) (start_at_2 m) = refl
+
+-- a task's start_at row is its own
+start_at_own : {t : Table} {now T U : ℕ} {p : Property} {r : RowValue} → SetStartAt t now T (task № U) p r → T ≡ U
+start_at_own (start_at_2 n) = refl
+
+start_at_no_state : {t : Table} {now T U : ℕ} {r : RowValue} → ¬ SetStartAt t now T (task № U) state r
+start_at_no_state h = elim h [ ]
+
+start_at_no_completed : {t : Table} {now T U : ℕ} {r : RowValue} → ¬ SetStartAt t now T (task № U) completed_time r
+start_at_no_completed h = elim h [ ]
 
 -- ---- a value row
 
@@ -105,21 +116,21 @@ not_valued h = elim h [ ]
 no_assertion : {t : Table} {T U : ℕ} {l : List Assigns} {p : Property} {r : RowValue} → ¬ EnactAssertion t T l (task № U) p r
 no_assertion h = not_valued (assertion_valued h)
 
-complete_same : {t : Table} {now T : ℕ} {c : Component} {p : Property} {r q : RowValue} → Complete t now T c p r → Complete t now T c p q → (r ≡ q) ⊎ Valued c p
+complete_same : {t : Table} {now T U : ℕ} {c : Component} {p : Property} {r q : RowValue} → Complete t now T c p r → Complete t now U c p q → (r ≡ q) ⊎ Valued c p
 complete_same complete_1 complete_1 = inl refl
 complete_same complete_1 (complete_3 a h) = absurd (no_assertion h)
-complete_same complete_1 (complete_4 a h) = absurd (elim h [ ])
+complete_same complete_1 (complete_4 a h) = absurd (start_at_no_state h)
 complete_same complete_2 complete_2 = inl refl
 complete_same complete_2 (complete_3 a h) = absurd (no_assertion h)
-complete_same complete_2 (complete_4 a h) = absurd (elim h [ ])
+complete_same complete_2 (complete_4 a h) = absurd (start_at_no_completed h)
 complete_same (complete_3 a h) k = inr (assertion_valued h)
 complete_same (complete_4 a h) (complete_3 b k) = inr (assertion_valued k)
 complete_same (complete_4 a h) (complete_4 b k) = inl (start_at_same h k)
-complete_same (complete_4 a h) (complete_5 n) = absurd (n a)
-complete_same (complete_4 a h) complete_1 = absurd (elim h [ ])
-complete_same (complete_4 a h) complete_2 = absurd (elim h [ ])
+complete_same {t} (complete_4 a h) (complete_5 n) = absurd (n (subst (CycleConditions t) (start_at_own h) a))
+complete_same (complete_4 a h) complete_1 = absurd (start_at_no_state h)
+complete_same (complete_4 a h) complete_2 = absurd (start_at_no_completed h)
 complete_same (complete_5 n) (complete_3 b k) = absurd (no_assertion k)
-complete_same (complete_5 n) (complete_4 a h) = absurd (n a)
+complete_same {t} (complete_5 n) (complete_4 a h) = absurd (n (subst (CycleConditions t) (start_at_own h) a))
 complete_same (complete_5 n) (complete_5 m) = inl refl
 
 -- ---- the rows of one review

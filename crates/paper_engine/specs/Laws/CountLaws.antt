@@ -40,17 +40,17 @@ no_source_count h = elim h [ ]
 no_assertion_count : {t : Table} {T U : ℕ} {l : List Assigns} {p : Property} {r : RowValue} → ¬ EnactAssertion t U l (task № T) p r
 no_assertion_count (assertion_2 i h) = elim h [ ]
 
-initialise_count : {t : Table} {now T : ℕ} {r : RowValue} → Initialise t now T (task № T) cycle_count r → CountAsked t now T r
+initialise_count : {t : Table} {now U T : ℕ} {r : RowValue} → Initialise t now U (task № T) cycle_count r → CountAsked t now T r
 initialise_count initialise_2 = by_initialise
 
-start_count : {t : Table} {now T : ℕ} {r : RowValue} → Review t now T Operations.§8·5·1-2 → Start t now T (task № T) cycle_count r → CountAsked t now T r
+start_count : {t : Table} {now U T : ℕ} {r : RowValue} → Review t now U Operations.§8·5·1-2 → Start t now U (task № T) cycle_count r → CountAsked t now T r
 start_count (review_2 n s) (start_4 h) = by_start s h (asks_2 (review_2 n s) start_1)
 start_count v (start_9 a b i h) = absurd (no_source_count h)
 
-no_discard_count : {t : Table} {now T : ℕ} {r : RowValue} → ¬ Discard t now T (task № T) cycle_count r
+no_discard_count : {t : Table} {now U T : ℕ} {r : RowValue} → ¬ Discard t now U (task № T) cycle_count r
 no_discard_count h = elim h [ ]
 
-no_complete_count : {t : Table} {now T : ℕ} {r : RowValue} → ¬ Complete t now T (task № T) cycle_count r
+no_complete_count : {t : Table} {now U T : ℕ} {r : RowValue} → ¬ Complete t now U (task № T) cycle_count r
 no_complete_count (complete_3 a h) = no_assertion_count h
 no_complete_count (complete_4 a h) = elim h [ ]
 

@@ -291,8 +291,11 @@ module _ {g : List TopLevel} {t : Table} (lawful : Lawful g) (kept : Kept g t) w
   asks_there i h = go (place h) i h
     where
       item_of : {S : Component} {d : ℕ} → Contains t S data_item_of (component_is (data_item № d)) → There g (data_item № d)
-      item_of q = from (adds kept (λ x. elim x [ ]) q)
+      item_of q = from (adds kept fixed_item q)
         where
+          fixed_item : {S : Component} → ¬ Moving S data_item_of
+          fixed_item h = elim h [ ]
+
           from : {S : Component} {d : ℕ} → Adds g S data_item_of (component_is (data_item № d)) → There g (data_item № d)
           from (source_7 a b e) = item_there b
 

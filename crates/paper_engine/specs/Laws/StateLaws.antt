@@ -56,20 +56,23 @@ clash n h k = n (cc)
 
 -- dormant is asked for by Initialise alone
 
-start_not_dormant : {t : Table} {now T : ℕ} → ¬ Start t now T (task № T) state (state_is dormant)
+start_not_dormant : {t : Table} {now U T : ℕ} → ¬ Start t now U (task № T) state (state_is dormant)
 start_not_dormant (start_9 a b i h) = elim h [ ]
 
-complete_not_dormant : {t : Table} {now T : ℕ} → ¬ Complete t now T (task № T) state (state_is dormant)
+complete_not_dormant : {t : Table} {now U T : ℕ} → ¬ Complete t now U (task № T) state (state_is dormant)
 complete_not_dormant (complete_3 a h) = no_assertion h
   where
     no_assertion : {t : Table} {T U : ℕ} {l : List Assigns} {r : RowValue} → ¬ Operations.EnactAssertion t U l (task № T) state r
     no_assertion (Operations.assertion_2 i h) = elim h [ ]
 complete_not_dormant (complete_4 a h) = elim h [ ]
 
+discard_not_dormant : {t : Table} {now U T : ℕ} → ¬ Discard t now U (task № T) state (state_is dormant)
+discard_not_dormant h = elim h [ ]
+
 pub initialised : {t : Table} {now T : ℕ} → Asks t now T (task № T) state (state_is dormant) → InitialiseConditions t now T
 initialised (asks_1 (review_1 v) h) = v
 initialised (asks_2 v h) = absurd (start_not_dormant h)
-initialised (asks_3 v h) = absurd (elim h [ ])
+initialised (asks_3 v h) = absurd (discard_not_dormant h)
 initialised (asks_4 v h) = absurd (complete_not_dormant h)
 
 pub asked_id : {t : Table} {now T : ℕ} {p : Property} {r : RowValue} → Changes t now (task № T) p r → TaskId t T
@@ -101,7 +104,7 @@ module _ {g : List TopLevel} {t t' : Table} {now : ℕ} {f f' : Bool} (lawful : 
     no_discard (discard_2 (no_parent_plan n) b c d) = n P parent
     no_discard (discard_2 (parent_in_progress h k) b c d) = not_running h k
 
-    initialise_dormant : {r : RowValue} → Initialise t now C (task № C) state r → r ≡ state_is dormant
+    initialise_dormant : {U T : ℕ} {r : RowValue} → Initialise t now U (task № T) state r → r ≡ state_is dormant
     initialise_dormant initialise_1 = refl
 
     started : ¬ Review t now C §8·5·1-2

@@ -22,20 +22,29 @@ no_time_added h = elim h [ ]
 pub initial_timely : {g : List TopLevel} {t : Table} (m : ℕ) → Initial g t → Timely m t
 initial_timely m i = record { times = λ {c} {p} {n} h. absurd (no_time_added ((i.rows c p (time_is n)).0 h)) }
 
+no_source_time : {t : Table} {n : ℕ} {S c : Component} {p : Property} → ¬ InitialiseSource t S c p (time_is n)
+no_source_time h = elim h [ ]
+
 start_time : {t : Table} {now T n : ℕ} {c : Component} {p : Property} → Start t now T c p (time_is n) → n ≡ now
 start_time start_3 = refl
-start_time (start_9 a b i h) = absurd (elim h [ ])
+start_time (start_9 a b i h) = absurd (no_source_time h)
 
 discard_time : {t : Table} {now T n : ℕ} {c : Component} {p : Property} → Discard t now T c p (time_is n) → n ≡ now
 discard_time discard_3 = refl
 
+no_assertion_time : {t : Table} {T n : ℕ} {l : List Assigns} {c : Component} {p : Property} → ¬ EnactAssertion t T l c p (time_is n)
+no_assertion_time (assertion_2 i h) = elim h [ ]
+
 complete_time : {t : Table} {now T n : ℕ} {c : Component} {p : Property} → Complete t now T c p (time_is n) → n ≡ now
 complete_time complete_2 = refl
-complete_time (complete_3 a (assertion_2 i h)) = absurd (elim h [ ])
+complete_time (complete_3 a h) = absurd (no_assertion_time h)
 complete_time (complete_4 a (start_at_2 n)) = refl
 
+no_initialise_time : {t : Table} {now T n : ℕ} {c : Component} {p : Property} → ¬ Initialise t now T c p (time_is n)
+no_initialise_time h = elim h [ ]
+
 asked_time : {t : Table} {now n : ℕ} {c : Component} {p : Property} → Changes t now c p (time_is n) → n ≡ now
-asked_time (asked_by i (asks_1 v h)) = absurd (elim h [ ])
+asked_time (asked_by i (asks_1 v h)) = absurd (no_initialise_time h)
 asked_time (asked_by i (asks_2 v h)) = start_time h
 asked_time (asked_by i (asks_3 v h)) = discard_time h
 asked_time (asked_by i (asks_4 v h)) = complete_time h
