@@ -6,8 +6,8 @@ use Rattle.paper_expressions.specs.View.{At}
 use Rattle.paper_guideline.specs.Structure.{TopLevel, DataItem, data_items}
 use Rattle.paper_rows.specs.Table.{data_item, ◌№◌, class, type, type_is, RowValue, Table, Contains, DataItemId}
 use Rattle.paper_rows.specs.Load.{Adds, data_item_3, data_item_4b}
-use Rattle.paper_rows.specs.Laws.Lists.{at_below, indexed_at}
-use Rattle.paper_engine.specs.Laws.Kept.{adds, has, fixed_class, fixed_type, item_view}
+use Rattle.paper_rows.proofs.Laws.Lists.{at_below, indexed_at}
+use Rattle.paper_engine.proofs.Laws.Kept.{adds, has, fixed_class, fixed_type, item_view}
 use Rattle.parts.specs.Codes.{declared_code}
 use Rattle.truths.specs.Part.{part_of, part_at}
 use Rattle.planned.specs.Planned.{item_names}

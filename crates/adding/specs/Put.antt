@@ -6,9 +6,9 @@ use Rattle.std.proofs.Math.Option.{Option, none, some}
 use Rattle.paper_expressions.specs.Values as paper
 use Rattle.paper_guideline.specs.Structure.{TopLevel}
 use Rattle.paper_rows.specs.Table.{task, data_item, Component, ◌№◌, Property, value, requested, RowValue, value_is, truth_row, Table}
-use Rattle.paper_rows.specs.Laws.Seen.{value_f}
+use Rattle.paper_rows.proofs.Laws.Seen.{value_f}
 use Rattle.paper_calls.specs.Calls.{Replaced, replaced, kept, Replaces, AddDataValue, add_2a, add_2b}
-use Rattle.paper_calls.specs.Laws.CallLaws.{Mild, sets_good}
+use Rattle.paper_calls.proofs.Laws.CallLaws.{Mild, sets_good}
 use Rattle.values.specs.declared.value.Value.{Value}
 use Rattle.blocks.specs.Blocks.{Copied, Outside}
 use Rattle.state.specs.Cell.{Cell, plain_truth}

@@ -1,7 +1,7 @@
 -- Laws: what was read is given, or nothing is. By what reading answered.
 use Rattle.std.specs.Prelude.{ℕ, ◌≡◌, List, ℤ, pos, replicate}
 use Rattle.std.proofs.Common.{subst}
-use Rattle.paper_expressions.specs.Laws.Search.{no_clash}
+use Rattle.paper_expressions.proofs.Laws.Search.{no_clash}
 use Rattle.paper_expressions.specs.Values as paper
 use Rattle.adding.specs.Add.{Adds}
 use Rattle.typed_value.specs.Elements.{Found}

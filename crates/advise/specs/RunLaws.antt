@@ -2,11 +2,11 @@
 use Rattle.std.specs.Prelude.{ℕ, suc, ◌+◌, ◌<◌, ◌≤◌, ◌≡◌, refl, Bool, true, false, cond, List, eqb}
 use Rattle.std.proofs.Common.{arith, sym, ap, subst, ◌∙◌, ⊎_elim, eq-eqb, ne_eqb, eqb-true}
 use Rattle.std.proofs.lemmas.Bool.{eqb-false}
-use Rattle.paper_expressions.specs.Laws.Search.{no_clash}
-use Rattle.paper_expressions.specs.Laws.Tests.{two, contra}
+use Rattle.paper_expressions.proofs.Laws.Search.{no_clash}
+use Rattle.paper_expressions.proofs.Laws.Tests.{two, contra}
 use Rattle.paper_engine.specs.Cycle as Cycle
 use Cycle.{Ending, quiet, bounded, Report, ends, Runs, stop_quiet, stop_bounded, stop_exception, repeat}
-use Rattle.paper_engine.specs.Laws.CycleLaws.{never_more, runs_compose}
+use Rattle.paper_engine.proofs.Laws.CycleLaws.{never_more, runs_compose}
 use Rattle.paper_calls.specs.Calls as Calls
 use Calls.{State, loaded, run, Calls, run_7, run_6_bound, run_6_lent, run_done, flag_set, cycle_limit, ran, refuses}
 use Rattle.holding.specs.Elsewhere.{moved_on}

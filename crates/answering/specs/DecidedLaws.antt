@@ -1,7 +1,7 @@
 -- From load's answer to what is decided: no table is short, so a breach is one without short tables. And only one reply fits.
 use Rattle.std.specs.Prelude.{ℕ, ◌*◌, ◌≤◌, ◌≡◌, refl, List, length}
 use Rattle.std.proofs.Common.{subst}
-use Rattle.paper_expressions.specs.Laws.Tests.{contra}
+use Rattle.paper_expressions.proofs.Laws.Tests.{contra}
 use Rattle.paper_guideline.specs.Limits.{guideline_limit, part_limit}
 use Rattle.parts.specs.Part.{Table}
 use Rattle.limits.specs.Limits.{row_cells}
@@ -11,7 +11,7 @@ use Rattle.answering.specs.Reply.{Reply, Answered}
 use Rattle.answering.specs.Stages.{never_both, swapped}
 use Rattle.stages.specs.Judged.{Short}
 use Rattle.reading.specs.Laws.{same_refusal}
-use Rattle.paper_guideline.specs.Laws.RefusalLaws.{one_answer}
+use Rattle.paper_guideline.proofs.Laws.RefusalLaws.{one_answer}
 use Rattle.answering.specs.declared.verdict.Verdict.{Verdict}
 use Rattle.answering.specs.declared.verdict.Verdict.TheVariants.{Loads, Refused}
 use Rattle.answering.specs.Decided.{Decides}

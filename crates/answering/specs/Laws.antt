@@ -5,8 +5,8 @@ use Rattle.paper_guideline.specs.Limits.{task_limit}
 use Rattle.paper_guideline.specs.Structure.{TopLevel, tasks}
 use Rattle.paper_guideline.specs.Names.{NameBreach}
 use Rattle.paper_guideline.specs.Refusals as Refusals
-use Rattle.paper_guideline.specs.Laws.RefusalLaws.{one_answer}
-use Rattle.paper_guideline.specs.Laws.StageTwin.{one_read}
+use Rattle.paper_guideline.proofs.Laws.RefusalLaws.{one_answer}
+use Rattle.paper_guideline.proofs.Laws.StageTwin.{one_read}
 use Rattle.parts.specs.Part.{Table, table}
 use Rattle.guideline_rows.specs.Rows.{flatten}
 use Rattle.guideline_rows.specs.Encoded.{Encoded}

@@ -5,7 +5,7 @@ use Rattle.paper_guideline.specs.Structure.{TopLevel}
 use Rattle.paper_guideline.specs.Names.{NameBreach}
 use Rattle.paper_guideline.specs.Refusals
 use Refusals.{Stage, name_stage, type_stage, turn, Read, Breach, name_breach, Answers, is_loaded, is_refused, loads, refused}
-use Rattle.paper_guideline.specs.Laws.StageTwin.{one_read}
+use Rattle.paper_guideline.proofs.Laws.StageTwin.{one_read}
 use Rattle.types.specs.Judged.{Misfit}
 use Rattle.types.specs.Load.{misfit_breach, breach_misfit}
 use Rattle.stages.specs.Stages.{Passed, passed_next, over}

@@ -7,7 +7,7 @@ use Rattle.paper_expressions.specs.Values as paper
 use Rattle.paper_expressions.specs.Values.{TaskState, dormant, in_progress, discarded, completed}
 use Rattle.paper_expressions.specs.Clauses.{Clause}
 use Rattle.paper_expressions.specs.View.{View, Apart}
-use Rattle.paper_expressions.specs.Laws.WithinLimits.{Limited, EachLimited, more_limited}
+use Rattle.paper_expressions.proofs.Laws.WithinLimits.{Limited, EachLimited, more_limited}
 use Rattle.paper_expressions.specs.Operators.{plus, minus, times, is>, is<, is>=, is<=, is=, is!=, max, min}
 use Rattle.paper_expressions.specs.Operators.{Op, is-in}
 use Rattle.paper_expressions.specs.Operators.{F, F-arithmetic, F-divide, F-compare, F-and, F-or, F-includes, F-oneof, F-if, F-negate, F-isknown, F-not, F-count, F-sum, F-extreme, F-nth, F-is-in}

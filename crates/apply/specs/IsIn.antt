@@ -8,8 +8,8 @@ use Rattle.paper_expressions.specs.Values.{TaskState, dormant, in_progress, disc
 use Rattle.paper_expressions.specs.Clauses.{Clause}
 use Rattle.paper_expressions.specs.View.{View, Task, At, ResolveTask, Apart}
 use Rattle.paper_expressions.specs.Operators.{by_text, IsIn, is_in_1, is_in_2, is_in_3}
-use Rattle.paper_expressions.specs.Laws.Search.{no_clash, at_one}
-use Rattle.paper_expressions.specs.Laws.Resolve.{task_same}
+use Rattle.paper_expressions.proofs.Laws.Search.{no_clash, at_one}
+use Rattle.paper_expressions.proofs.Laws.Resolve.{task_same}
 use Rattle.values.specs.declared.text.Handle.{Handle}
 use Rattle.values.specs.declared.value.Value.{Value}
 use Rattle.values.specs.declared.scalar.Scalar.{Scalar}

@@ -5,7 +5,7 @@ use Rattle.std.proofs.Math.Option.{none, some}
 use Rattle.paper_expressions.specs.Bytes.{folded, Alike}
 use Rattle.paper_expressions.specs.Clauses.{§9·6-1, §9·6-3}
 use Rattle.paper_expressions.specs.View.{View, Task, At, Named, ResolveTask, resolve_task_1, resolve_task_3, Apart}
-use Rattle.paper_expressions.specs.Laws.Search.{no_clash, alikeb, alike_reflects, true_reflects, reflects_true}
+use Rattle.paper_expressions.proofs.Laws.Search.{no_clash, alikeb, alike_reflects, true_reflects, reflects_true}
 use Rattle.parts.specs.ItemLaws.{at_index, index_of}
 use Rattle.values.specs.declared.text.Handle.{Handle}
 use Rattle.values.specs.declared.scalar.Scalar.TheVariants.{Unknown, Truth}

@@ -3,7 +3,7 @@ use Rattle.std.specs.Prelude.{◌≡◌, Bool, true, false, cond, List, ℕ, zer
 use Rattle.std.proofs.Math.Option.{Option, none, some}
 use Rattle.paper_expressions.specs.Values.{TaskState, dormant, in_progress, discarded, completed}
 use Rattle.paper_expressions.specs.View.{View, Task, At}
-use Rattle.paper_expressions.specs.Laws.Search.{alikeb}
+use Rattle.paper_expressions.proofs.Laws.Search.{alikeb}
 use Rattle.values.specs.declared.text.Handle.{Handle}
 use Rattle.values.specs.declared.scalar.Scalar.{Scalar}
 use Rattle.values.specs.declared.scalar.Scalar.TheVariants.{Unknown, Truth}

@@ -1,6 +1,6 @@
 // "is_dormant", "is_in_progress", "is_discarded" and "is_completed" (11.2.10), over the lent names and states of the tasks.
 ghost use Rattle.std.specs.Prelude.{◌≡◌};
-ghost use Rattle.paper_expressions.specs.Laws.Search.{alikeb};
+ghost use Rattle.paper_expressions.proofs.Laws.Search.{alikeb};
 ghost use Rattle.values.specs.Meaning.{bytes_of, handle_of};
 ghost use Rattle.apply.specs.Tasks.{FoundTask, StateOf};
 ghost use Rattle.apply.specs.IsIn.{Asked};

@@ -12,10 +12,10 @@ use Rattle.paper_expressions.specs.Limits.{integer_limit, real_limit}
 use Rattle.paper_expressions.specs.Values as paper
 use Rattle.paper_expressions.specs.Values.{unknown, integer, real, Value, one, sequence, unit}
 use Rattle.paper_expressions.specs.Clauses.{§11·1·1-1a, §11·1·1-1b, §11·1·1-1c, §11·1·1-1d, §11·1·2-1a, §11·1·2-1b, §11·1·2-1c}
-use Rattle.paper_expressions.specs.Laws.WithinLimits.{Limited, one_limited, integer_small, real_small}
+use Rattle.paper_expressions.proofs.Laws.WithinLimits.{Limited, one_limited, integer_small, real_small}
 use Rattle.paper_expressions.specs.Operators as section-11
 use Rattle.paper_expressions.specs.Operators.{whole, decimal, cut, quotient}
-use Rattle.paper_expressions.specs.Laws.Only.{Answer, gives, Summand, absent, other_sort, entire, part, summand, arith_f, whole_sum, real_sum, zero_z, divided_f, Term, missing, other, amount, term, over, negate_f}
+use Rattle.paper_expressions.proofs.Laws.Only.{Answer, gives, Summand, absent, other_sort, entire, part, summand, arith_f, whole_sum, real_sum, zero_z, divided_f, Term, missing, other, amount, term, over, negate_f}
 use Rattle.values.specs.declared.scalar.Scalar.{Scalar}
 use Rattle.values.specs.declared.scalar.Scalar.TheVariants.{Unknown, Truth, Int, Real, Text}
 use Rattle.values.specs.declared.value.Value as Code

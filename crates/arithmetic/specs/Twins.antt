@@ -2,7 +2,7 @@
 use Rattle.std.specs.Prelude.{cond, ℤ, pos, ◌+ℤ◌, ◌-ℤ◌, ◌*ℤ◌}
 use Rattle.paper_expressions.specs.Values.{unit}
 use Rattle.paper_expressions.specs.Operators.{whole, decimal, quotient}
-use Rattle.paper_expressions.specs.Laws.Only.{zero_z}
+use Rattle.paper_expressions.proofs.Laws.Only.{zero_z}
 use Rattle.numbers.specs.declared.number.Num.{Num}
 use Rattle.values.specs.declared.scalar.Scalar.{Scalar}
 use Rattle.values.specs.declared.scalar.Scalar.TheVariants.{Unknown, Truth, Int, Real, Text}

@@ -1,7 +1,7 @@
 // "+", "-", "*", "/" (11.1.1, 11.1.2) and unary minus (11.2.2).
 ghost use Rattle.std.specs.Prelude.{◌≡◌, List as Seq, [], ◌∷◌, ℕ, ◌≤◌, ◌^◌, pos, nat_abs, ◌-ℤ◌};
 ghost use Rattle.paper_expressions.specs.Operators as paper;
-ghost use Rattle.paper_expressions.specs.Laws.WithinLimits.{Limited};
+ghost use Rattle.paper_expressions.proofs.Laws.WithinLimits.{Limited};
 ghost use Rattle.values.specs.Meaning.{meaning_v};
 ghost use Rattle.operators.specs.Means.{Means, operation};
 ghost use Rattle.arithmetic.specs.Twins.{combined, with_int, with_real, arith_c, quotient_c, divide_by, divide_c, negate_c};

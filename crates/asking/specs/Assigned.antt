@@ -7,20 +7,20 @@ use Rattle.paper_expressions.specs.View.{View, At}
 use Rattle.paper_expressions.specs.Types.{Ty}
 use Rattle.paper_expressions.specs.Expressions.{Expr, HasType}
 use Rattle.paper_expressions.specs.Evaluation.{Evaluates}
-use Rattle.paper_expressions.specs.Laws.Search.{at_one}
-use Rattle.paper_expressions.specs.Laws.Typing.{type_kept}
-use Rattle.paper_expressions.specs.Laws.WithinLimits.{Modest, Limited}
-use Rattle.paper_expressions.specs.Laws.Promise.{one_value}
-use Rattle.paper_expressions.specs.Laws.Parentheses.{bare, type_to_bare}
+use Rattle.paper_expressions.proofs.Laws.Search.{at_one}
+use Rattle.paper_expressions.proofs.Laws.Typing.{type_kept}
+use Rattle.paper_expressions.proofs.Laws.WithinLimits.{Modest, Limited}
+use Rattle.paper_expressions.proofs.Laws.Promise.{one_value}
+use Rattle.paper_expressions.proofs.Laws.Parentheses.{bare, type_to_bare}
 use Rattle.paper_guideline.specs.Structure.{TopLevel}
 use Rattle.paper_guideline.specs.Limits.{depth_limit}
 use Rattle.paper_guideline.specs.Refusals.{declared_items}
 use Rattle.paper_rows.specs.Table.{task, ◌№◌, postcondition, RowValue, assertion_is, Assigns, Table, Contains}
-use Rattle.paper_rows.specs.Laws.Sized.{Plain}
+use Rattle.paper_rows.proofs.Laws.Sized.{Plain}
 use Rattle.paper_engine.specs.Conditions.{Evaluate}
-use Rattle.paper_engine.specs.Laws.Kept.{view_f, view_of, view_sound, same_items, one_view, adds, fixed_postcondition}
-use Rattle.paper_engine.specs.Laws.Attached.{assigned_typed, assigned_at}
-use Rattle.paper_engine.specs.Laws.LimitLaws.{value_within}
+use Rattle.paper_engine.proofs.Laws.Kept.{view_f, view_of, view_sound, same_items, one_view, adds, fixed_postcondition}
+use Rattle.paper_engine.proofs.Laws.Attached.{assigned_typed, assigned_at}
+use Rattle.paper_engine.proofs.Laws.LimitLaws.{value_within}
 use Rattle.parts.specs.Part as Parts
 use Rattle.values.specs.declared.value.Value.{Value}
 use Rattle.values.specs.Meaning.{meaning_v}

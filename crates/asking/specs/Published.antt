@@ -7,12 +7,12 @@ use Rattle.paper_expressions.specs.View.{View, At}
 use Rattle.paper_guideline.specs.Structure.{TopLevel, DataItem, data_items}
 use Rattle.paper_rows.specs.Table.{task, data_item, Component, ◌№◌, Property, name, postcondition, value, RowValue, value_is, time_is, assertion_is, text_row, Assigns, Table, Contains, ViewOf}
 use Rattle.paper_rows.specs.Load.{Adds, data_item_4a}
-use Rattle.paper_rows.specs.Laws.Lists.{indexed_at}
+use Rattle.paper_rows.proofs.Laws.Lists.{indexed_at}
 use Rattle.paper_engine.specs.Operations
 use Operations.{Review, §8·5·1-4, Start, start_9, ResolveTarget, target_2, as_it_is, assertion_1, EnactAssertion, assertion_2, Complete, complete_1, complete_2, complete_3, complete_4, complete_5, asks_1, asks_2, asks_3, asks_4, Changes, asked_by}
-use Rattle.paper_engine.specs.Laws.CollisionLaws.{Valued, valued}
-use Rattle.paper_engine.specs.Laws.Kept.{view_f, item_view, view_of, view_sound, one_view, adds, fixed_name}
-use Rattle.paper_engine.specs.Laws.KeptLaws.{never_cycles}
+use Rattle.paper_engine.proofs.Laws.CollisionLaws.{Valued, valued}
+use Rattle.paper_engine.proofs.Laws.Kept.{view_f, item_view, view_of, view_sound, one_view, adds, fixed_name}
+use Rattle.paper_engine.proofs.Laws.KeptLaws.{never_cycles}
 use Rattle.parts.specs.Part as Parts
 use Rattle.operations.specs.Rows.{target_at, assign_at, assigns_at, CompleteS, symbol_1, symbol_2, symbol_3, symbol_5}
 use Rattle.operations.specs.Review.{AskedS, asked_1, asked_2, asked_3, asked_4}

@@ -5,8 +5,8 @@ use Rattle.std.proofs.Math.Decide.{dec_lt}
 use Rattle.std.proofs.Math.Option.{Option, some}
 use Rattle.paper_expressions.specs.Values as paper
 use Rattle.paper_expressions.specs.Values.{one, unknown}
-use Rattle.paper_expressions.specs.Laws.WithinLimits.{Limited, one_limited, unknown_small}
-use Rattle.paper_expressions.specs.Laws.Tests.{contra}
+use Rattle.paper_expressions.proofs.Laws.WithinLimits.{Limited, one_limited, unknown_small}
+use Rattle.paper_expressions.proofs.Laws.Tests.{contra}
 use Rattle.state.specs.Items.{Holds, text_place, one_value, holds_as, shape_of, there-of, element, tag_of, number_of, byte_of}
 use Rattle.values.specs.declared.scalar.Scalar.TheVariants.{Unknown}
 use Rattle.values.specs.declared.value.Value.{Value}

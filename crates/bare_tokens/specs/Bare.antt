@@ -2,7 +2,7 @@
 use Rattle.std.specs.Prelude.{ℕ, zero, suc, ◌+◌, ◌-◌, ◌≤◌, ◌<◌, ◌≡◌, Bool, true, false, cond, not, ◌&&◌, List, [], ◌∷◌, eqb, ltb, get_or}
 use Rattle.paper_tokens.specs.Tokens.{“caption”, “description”, “precondition”, “postcondition”, “terminate”, “wait-condition”, “data”, “plan”, “action”, “enquiry”, “and”}
 use Rattle.paper_tokens.specs.Tokens.{“::”, “semicolon”, “open”, “close”, “[”, “]”, “=”, ‘other-atom’, ‘yes-or-no’, ‘data-type’}
-use Rattle.paper_grammar.specs.Laws.Ll.{is_in}
+use Rattle.paper_grammar.proofs.Laws.Ll.{is_in}
 use Rattle.paper_guideline.specs.Limits.{bracket_limit}
 use Rattle.bare_tokens.specs.declared.within.Within.{Within}
 use Rattle.bare_tokens.specs.declared.Counts.{Counts}

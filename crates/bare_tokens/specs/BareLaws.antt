@@ -8,8 +8,8 @@ use Rattle.std.proofs.Math.Logic.{⊎_elim}
 use Rattle.std.proofs.Math.Dec.{eqb}
 use Rattle.std.proofs.Math.ListN.{get_or}
 use Rattle.std.proofs.lemmas.Bool.{eqb-false, not-true}
-use Rattle.paper_expressions.specs.Laws.Tests.{two, contra, both, and_l, and_r}
-use Rattle.paper_expressions.specs.Laws.Search.{Reflects, of_yes, of_no}
+use Rattle.paper_expressions.proofs.Laws.Tests.{two, contra, both, and_l, and_r}
+use Rattle.paper_expressions.proofs.Laws.Search.{Reflects, of_yes, of_no}
 use Rattle.paper_tokens.specs.Tokens.{“semicolon”, “open”, “data”}
 use Rattle.paper_guideline.specs.Limits.{bracket_limit}
 use Rattle.bare_tokens.specs.declared.within.Within.{Within}

@@ -9,7 +9,7 @@ use mathlib.Core.List.{List, [], ◌∷◌, ◌++◌, append_assoc, append-nil}
 use Rattle.std.proofs.Math.ListN.{length, get_or-append}
 use Rattle.std.proofs.Math.Seq.{take-nil, get_or-append_seam}
 use Rattle.std.proofs.lemmas.List.{take-append-le, set_at}
-use Rattle.paper_expressions.specs.Laws.Tests.{two}
+use Rattle.paper_expressions.proofs.Laws.Tests.{two}
 use Rattle.bare_tokens.specs.Listed.{passing, fitting, Listed, Put, passed, full, put}
 
 -- ---- one number more

@@ -3,7 +3,7 @@ use Rattle.std.specs.Prelude.{ℕ, zero, suc, ◌+◌, ◌<◌, ◌≤◌, ◌�
 use Rattle.std.proofs.Common.{arith, not-suc-le-zero, sym, ap, subst, ◌∙◌, inl, inr, length-set, get_or-set_same, get_or-set_other, below_more}
 use Rattle.std.proofs.Math.Decide.{dec_lt, ℕ_discrete}
 use Rattle.std.proofs.Math.ListN.{get_or-eq_default}
-use Rattle.paper_expressions.specs.Laws.Tests.{contra}
+use Rattle.paper_expressions.proofs.Laws.Tests.{contra}
 use Rattle.parts.specs.Texts.{cells}
 
 -- outside the n cells from q on

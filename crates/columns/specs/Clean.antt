@@ -1,12 +1,12 @@
 -- Law: where no token of a text passes its limit, no cells of its columns stand for one that does. The cells say all of a token: its rule by its terminal.
 use Rattle.std.specs.Prelude.{ℕ, suc, ◌≤◌, ◌≡◌, true, false, cond, List, [], eqb, ltb}
 use Rattle.std.proofs.Common.{arith, sym, ap, subst, ◌∙◌, ⊎_elim, lt-ltb, ltb-true, ltb-false}
-use Rattle.paper_expressions.specs.Laws.Tests.{two}
+use Rattle.paper_expressions.proofs.Laws.Tests.{two}
 use Rattle.paper_expressions.specs.View.{At, at_first, at_later}
 use Rattle.paper_tokens.specs.Lexical.{Rule, reserved_word, atom, integer, float, double_quoted_string, Token}
 use Rattle.paper_tokens.specs.Tokens.{‘integer’, ‘float’, ‘double-quoted-string’, reserved_count}
 use Rattle.paper_tokens.specs.Terminals.{Terminal, a_reserved_word, yes_no, a_data_type, another_atom, an_integer, a_float, a_string}
-use Rattle.paper_tokens.specs.Laws.TerminalLaws.{reserved_below}
+use Rattle.paper_tokens.proofs.Laws.TerminalLaws.{reserved_below}
 use Rattle.paper_guideline.specs.Refusals.{TokenBreach}
 use Rattle.leaves.specs.Source
 use Source.{Source, Here, Stand, at_end, at_token, Clean}

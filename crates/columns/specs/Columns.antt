@@ -4,7 +4,7 @@ use Rattle.std.proofs.Common.{arith, sym, ap, subst, ◌∙◌, length-drop, tak
 use Rattle.std.proofs.Math.ListN.{get_or-append}
 use Rattle.paper_tokens.specs.Lexical.{Token, token, part, Tokens, at_end, skip, take_token}
 use Rattle.paper_tokens.specs.Terminals.{Terminal, Terminals, none, next}
-use Rattle.paper_guideline.specs.Laws.TreeLaws.{Each, all, ◌&◌}
+use Rattle.paper_guideline.proofs.Laws.TreeLaws.{Each, all, ◌&◌}
 use Rattle.tokens.specs.Reply.{filled, Accepted}
 use Rattle.leaves.specs.Source.{Source, source, Stand}
 use Rattle.leaves.specs.Source as Source

@@ -15,8 +15,8 @@ use Rattle.paper_expressions.specs.Bytes.{folded}
 use Rattle.paper_expressions.specs.Clauses.{Clause}
 use Rattle.paper_expressions.specs.Values as paper
 use Rattle.paper_expressions.specs.Operators as paper-op
-use Rattle.paper_expressions.specs.Laws.Compare.{Verdict, got, stuck, order_z, order_t, three, comp_s, comp_l, comp_f, kind_s, number, string, heads, on}
-use Rattle.paper_expressions.specs.Laws.Search.{no_clash}
+use Rattle.paper_expressions.proofs.Laws.Compare.{Verdict, got, stuck, order_z, order_t, three, comp_s, comp_l, comp_f, kind_s, number, string, heads, on}
+use Rattle.paper_expressions.proofs.Laws.Search.{no_clash}
 use Rattle.numbers.specs.Signs.{signed, verdict}
 use Rattle.numbers.specs.declared.sign.Sign as S
 use Rattle.numbers.specs.declared.sign.Sign.TheVariants.{Greater, Less, Equal, Unfit}

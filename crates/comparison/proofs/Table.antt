@@ -6,8 +6,8 @@ use Prim.Native.Nat.{ℕ}
 use Rattle.paper_expressions.specs.Values.{truth, one}
 use Rattle.paper_expressions.specs.Operators as section-11
 use Rattle.paper_expressions.specs.Operators.{+1, -1, ±0, ±?}
-use Rattle.paper_expressions.specs.Laws.Compare.{Verdict, got, stuck, comp_f, table_of_unknown}
-use Rattle.paper_expressions.specs.Laws.Only.{compared_by}
+use Rattle.paper_expressions.proofs.Laws.Compare.{Verdict, got, stuck, comp_f, table_of_unknown}
+use Rattle.paper_expressions.proofs.Laws.Only.{compared_by}
 use Rattle.numbers.specs.declared.sign.Sign.{Sign}
 use Rattle.numbers.specs.Signs.{verdict}
 use Rattle.values.specs.declared.scalar.Scalar.{Scalar}

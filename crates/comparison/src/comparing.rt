@@ -1,6 +1,6 @@
 // comp (11.1.3): of any two values.
 ghost use Rattle.std.specs.Prelude.{◌≡◌, List as Seq, ℕ};
-ghost use Rattle.paper_expressions.specs.Laws.Compare.{comp_f, comp_s, kind_s, number, string, comp_l};
+ghost use Rattle.paper_expressions.proofs.Laws.Compare.{comp_f, comp_s, kind_s, number, string, comp_l};
 ghost use Rattle.numbers.specs.Signs.{verdict};
 ghost use Rattle.values.specs.Meaning.{meaning, meaning_l, meaning_v, bytes_of, beside, goes_on_fn, end_of, size_of};
 

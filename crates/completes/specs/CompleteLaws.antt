@@ -2,7 +2,7 @@
 use Rattle.std.specs.Prelude.{ℕ, zero, suc, ◌+◌, ◌-◌, ◌<◌, ◌≤◌, ◌≡◌, refl, Bool, true, false, not, ◌&&◌, ◌||◌, ◌↔◌, ◌⊎◌, List, [], ◌∷◌}
 use Rattle.std.proofs.Common.{arith, sym, ap, subst, ◌∙◌, inl, inr}
 use Rattle.std.proofs.Math.Option.{Option, none, some}
-use Rattle.paper_expressions.specs.Laws.Tests.{two, contra}
+use Rattle.paper_expressions.proofs.Laws.Tests.{two, contra}
 use Rattle.paper_expressions.specs.Values.{in_progress, discarded, completed}
 use Rattle.paper_expressions.specs.View.{At}
 use Rattle.paper_rows.specs.Table.{task, data_item, source, Component, ◌№◌, a_plan, class, state, parent_plan, confirmatory, confirmed, optional, sources, data_item_of, mandatory, requested, RowValue, state_is, class_is, component_is, components_are, truth_row, Table, Contains}

@@ -1,7 +1,7 @@
 -- 8.6.4 as tests on the tables' cells; and the laws of the loop over the sources.
 use Rattle.std.specs.Prelude.{ℕ, ◌+◌, ◌<◌, ◌≤◌, ◌≡◌, refl, Bool, true, false, not, ◌&&◌, ◌||◌, List, eqb, get_or}
 use Rattle.std.proofs.Common.{arith, sym, ap₂, ◌∙◌}
-use Rattle.paper_expressions.specs.Laws.Tests.{contra, two}
+use Rattle.paper_expressions.proofs.Laws.Tests.{contra, two}
 use Rattle.state.specs.Layout.{row_is_fn}
 use Rattle.waits.specs.Booleans.{all_f, all_more, all_none, is_all, Tests}
 use Rattle.waits.specs.Twins.{marked, timed_f, confirmatory_f, class_f, first_at, count_at_fn, item_at, mandatory_f}

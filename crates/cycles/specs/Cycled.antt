@@ -3,18 +3,18 @@ use Rattle.std.specs.Prelude.{ℕ, ◌+◌, ◌*◌, ◌<◌, ◌≤◌, ◌≡�
 use Rattle.std.proofs.Common.{arith, sym, ap, subst, ◌∙◌, inl, inr, length-set, get_or-set_same, get_or-set_other}
 use Rattle.std.proofs.Math.Decide.{dec_lt, ℕ_discrete}
 use Rattle.std.proofs.lemmas.List.{length-replicate, get_or-replicate}
-use Rattle.paper_expressions.specs.Laws.Tests.{contra}
+use Rattle.paper_expressions.proofs.Laws.Tests.{contra}
 use Rattle.paper_guideline.specs.Structure.{TopLevel}
 use Rattle.paper_rows.specs.Table.{data_item, Component, ◌№◌, Property, value, RowValue, Table}
-use Rattle.paper_rows.specs.Laws.Seen.{value_f}
+use Rattle.paper_rows.proofs.Laws.Seen.{value_f}
 use Rattle.paper_engine.specs.Operations.{Changes}
 use Rattle.paper_engine.specs.Cycle.{Flagged, raised, as_it_was, Cause, EnactChanges}
-use Rattle.paper_engine.specs.Laws.KeptLaws.{cycle_kept}
-use Rattle.paper_engine.specs.Laws.LimitLaws.{cycle_fits}
-use Rattle.paper_engine.specs.Laws.CountLaws.{cycle_counted}
-use Rattle.paper_engine.specs.Laws.StateLaws.{cycle_dormant}
-use Rattle.paper_engine.specs.Laws.TimeLaws.{cycle_timely}
-use Rattle.paper_calls.specs.Laws.CallLaws.{GoodTable}
+use Rattle.paper_engine.proofs.Laws.KeptLaws.{cycle_kept}
+use Rattle.paper_engine.proofs.Laws.LimitLaws.{cycle_fits}
+use Rattle.paper_engine.proofs.Laws.CountLaws.{cycle_counted}
+use Rattle.paper_engine.proofs.Laws.StateLaws.{cycle_dormant}
+use Rattle.paper_engine.proofs.Laws.TimeLaws.{cycle_timely}
+use Rattle.paper_calls.proofs.Laws.CallLaws.{GoodTable}
 use Rattle.state.specs.Cell.{bit}
 use Rattle.review.specs.Changes.{ChangesS, tasks_in}
 use Rattle.enacting.specs.Enact.{Enacts, Spots, Readable, enacted}

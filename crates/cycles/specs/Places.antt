@@ -7,8 +7,8 @@ use Rattle.paper_rows.specs.Table.{Kind, task, data_item, Component, source, ◌
 use Rattle.paper_engine.specs.Operations
 use Operations.{Initialise, initialise_1, initialise_2, initialise_3, initialise_4, initialise_5, initialise_9a, InitialiseSource, initialise_source, Start, start_1, start_2, start_3, start_4, start_8, start_9, start_12, Discard, discard_1, discard_3, Changes}
 use Rattle.paper_engine.specs.Cycle.{Collision, Enacted, not_named, enact_c, enact_d, EnactChanges}
-use Rattle.paper_engine.specs.Laws.CollisionLaws.{Valued, valued, changes_same}
-use Rattle.paper_engine.specs.Laws.StateLaws.{asked_id}
+use Rattle.paper_engine.proofs.Laws.CollisionLaws.{Valued, valued, changes_same}
+use Rattle.paper_engine.proofs.Laws.StateLaws.{asked_id}
 use Rattle.waits.specs.Twins.{first_at, count_at_fn, item_at}
 use Rattle.waits.specs.Worked.{Sources}
 use Rattle.state.specs.Cell.{Cell}

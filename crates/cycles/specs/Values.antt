@@ -5,11 +5,11 @@ use Rattle.std.proofs.Math.Option.{Option, none, some}
 use Rattle.paper_expressions.specs.Values.{Value, one, unknown}
 use Rattle.paper_guideline.specs.Structure.{TopLevel}
 use Rattle.paper_rows.specs.Table.{data_item, Component, ◌№◌, Property, value, RowValue, value_is, time_is, unknown_row, Table}
-use Rattle.paper_rows.specs.Laws.Seen.{value_f}
+use Rattle.paper_rows.proofs.Laws.Seen.{value_f}
 use Rattle.paper_engine.specs.Operations.{Changes}
 use Rattle.paper_engine.specs.Cycle.{Collision, Enacted, not_named, enact_c, enact_d, Cause, collides}
-use Rattle.paper_engine.specs.Laws.CollisionLaws.{Valued, valued, changes_same}
-use Rattle.paper_engine.specs.Laws.KeptLaws.{changes_typed}
+use Rattle.paper_engine.proofs.Laws.CollisionLaws.{Valued, valued, changes_same}
+use Rattle.paper_engine.proofs.Laws.KeptLaws.{changes_typed}
 use Rattle.state.specs.Items.{holds_as}
 use Rattle.changes.specs.Row.{Says}
 use Rattle.review.specs.Changes.{ChangesS, tasks_in}

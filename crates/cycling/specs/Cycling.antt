@@ -4,7 +4,7 @@ use Rattle.std.proofs.Math.Dec as Decide
 use Rattle.std.proofs.Common.{sym, ap, ap₂, subst, ◌∙◌}
 use Rattle.std.proofs.Math.Option.{Option, some}
 use Rattle.std.specs.Int.Signed.{lt_z}
-use Rattle.paper_expressions.specs.Laws.Search.{no_clash}
+use Rattle.paper_expressions.proofs.Laws.Search.{no_clash}
 use Rattle.paper_expressions.specs.Expressions.{Expr}
 use Rattle.paper_rows.specs.Table.{task, ◌№◌, cycle_count, nbr_cycles_value, cycle_until, RowValue, expression_is, integer_row, Table, Contains}
 use Rattle.paper_engine.specs.Conditions.{CycleConditions}

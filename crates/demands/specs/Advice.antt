@@ -4,11 +4,11 @@ use Rattle.std.proofs.Common.{sym, subst}
 use Rattle.std.proofs.Math.Option.{some}
 use Rattle.paper_expressions.specs.Bytes.{bytes}
 use Rattle.paper_expressions.specs.Values.{one, text}
-use Rattle.paper_expressions.specs.Laws.Search.{no_clash}
+use Rattle.paper_expressions.proofs.Laws.Search.{no_clash}
 use Rattle.paper_engine.specs.Cycle.{ends, quiet}
 use Rattle.paper_calls.specs.Calls as Calls
 use Calls.{State, empty, done, ran, row, shows_value, refuses, Call, load, run, set_engine_time, confirm_task, add_data_value, read_row, Calls}
-use Rattle.paper_calls.specs.Laws.CallLaws.{one_call}
+use Rattle.paper_calls.proofs.Laws.CallLaws.{one_call}
 use Rattle.paper_worked.specs.Fluke.{fluke_text, depths, Fluke, worked_fluke}
 use Rattle.load.specs.declared.Reply.{Reply}
 use Rattle.load.specs.declared.Reply.TheVariants as Load

@@ -8,7 +8,7 @@ use Rattle.paper_expressions.specs.Expressions.{Expr, ε, ◌▸◌, Apply, HasT
 use Rattle.paper_expressions.specs.Clauses.{Clause}
 use Rattle.paper_expressions.specs.Evaluation.{Evaluates}
 use Rattle.paper_expressions.specs.Promises.{MinimumOf}
-use Rattle.paper_expressions.specs.Laws.MinimumOf.{minimum_of}
+use Rattle.paper_expressions.proofs.Laws.MinimumOf.{minimum_of}
 use Rattle.paper_expressions.specs.View.{View, At, Sound}
 use Rattle.paper_guideline.specs.Parts.{Typed, expressions}
 use Rattle.paper_guideline.specs.Structure.{TopLevel}
@@ -16,12 +16,12 @@ use Rattle.paper_guideline.specs.Refusals as Refusals
 use Refusals.{Stage, text_stage, lexical_stage, count_stage, grammar_stage, left_out_stage, limit_stage, name_stage, type_stage, turn, number, declared_items, Fitting, Breach, no_type}
 use Rattle.paper_rows.specs.Table.{data_item, ◌№◌, RowValue, value, Table, Contains, ViewOf}
 use Rattle.paper_engine.specs.Cycle as Cycle
-use Rattle.paper_engine.specs.Laws.Kept.{TypedRow, view_of, view_sound, one_view}
+use Rattle.paper_engine.proofs.Laws.Kept.{TypedRow, view_of, view_sound, one_view}
 use Rattle.paper_calls.specs.Calls as Calls
 use Calls.{Guideline, State, empty, loaded, ran, refuses, Call, load, run, Calls, run_done, Series, no_call, then_call}
-use Rattle.paper_calls.specs.Laws.CallLaws.{Good, good_loaded, series_good, one_reading}
-use Rattle.paper_calls.specs.Laws.TotalLaws.{NotLoad, is_run}
-use Rattle.paper_calls.specs.Laws.Demands.{CallNumber, refused_call, Keeps, every_expression}
+use Rattle.paper_calls.proofs.Laws.CallLaws.{Good, good_loaded, series_good, one_reading}
+use Rattle.paper_calls.proofs.Laws.TotalLaws.{NotLoad, is_run}
+use Rattle.paper_calls.proofs.Laws.Demands.{CallNumber, refused_call, Keeps, every_expression}
 use Rattle.load.specs.declared.Reply.{Reply}
 use Rattle.load.specs.declared.Reply.TheVariants as Load
 use Rattle.load.specs.Loads.{Lent, short_f, Empty, Outcome, Replied}

@@ -3,7 +3,7 @@
 use Rattle.std.specs.Prelude.{ℕ, ◌≡◌, Bool, List, get_or}
 use Rattle.paper_calls.specs.Calls as Calls
 use Calls.{Call}
-use Rattle.paper_calls.specs.Laws.TotalLaws.{NotLoad}
+use Rattle.paper_calls.proofs.Laws.TotalLaws.{NotLoad}
 use Rattle.load.specs.declared.Reply.{Reply}
 use Rattle.load.specs.Loads.{Lent, Replied}
 use Rattle.replying.specs.Replying.{Replies}

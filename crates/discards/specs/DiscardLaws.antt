@@ -3,13 +3,13 @@ use Rattle.std.specs.Prelude.{ℕ, zero, suc, ◌+◌, ◌-◌, ◌<◌, ◌≤�
 use Rattle.std.proofs.Common.{arith, sym, ap, subst, ◌∙◌, inl, inr, ne_eqb}
 use Rattle.std.proofs.Math.Decide.{dec_lt}
 use Rattle.std.proofs.Math.Option.{Option, none, some}
-use Rattle.paper_expressions.specs.Laws.Search.{no_clash}
+use Rattle.paper_expressions.proofs.Laws.Search.{no_clash}
 use Rattle.paper_expressions.specs.Values.{dormant, in_progress, discarded, completed}
 use Rattle.paper_expressions.specs.Expressions.{Expr}
 use Rattle.paper_expressions.specs.View.{At, at_first}
 use Rattle.paper_rows.specs.Table.{task, Component, ◌№◌, state, antecedent_tasks, precondition, wait_condition, parent_plan, terminal, terminate_condition, RowValue, state_is, component_is, components_are, expression_is, truth_row, Table, Contains}
 use Rattle.paper_engine.specs.Conditions.{IsTrue, StartAt, ScheduleConditions, TerminationConditions, termination_1, termination_2, Discardable, discardable_in_progress, discardable_dormant, discardable_completed, ParentAllows, no_parent_plan, parent_in_progress, Unwanted, unwanted_i, unwanted_ii, DiscardConditions, discard_1i, discard_1ii, discard_2}
-use Rattle.paper_rows.specs.Laws.Seen.{expression_f, sees_expression, unseen}
+use Rattle.paper_rows.proofs.Laws.Seen.{expression_f, sees_expression, unseen}
 use Rattle.state.specs.Layout.{Rows, row_is_fn}
 use Rattle.waits.specs.Booleans.{Tests, all_f, any_f, is_and, is_or, is_not, is_if, is_as, is_all}
 use Rattle.waits.specs.Twins.{marked, waiting, timed_f, over_f, discarded_f, schedule_f, parent_at, parent_f}

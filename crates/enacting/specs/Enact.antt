@@ -3,7 +3,7 @@ use Rattle.std.specs.Prelude.{ℕ, ◌+◌, ◌*◌, ◌-◌, ◌<◌, ◌≤◌
 use Rattle.std.proofs.Common.{arith, not-suc-le-zero, sym, ap, subst, ◌∙◌, inl, inr, length-set, get_or-set_same, get_or-set_other}
 use Rattle.std.proofs.Math.Decide.{dec_lt, ℕ_discrete}
 use Rattle.std.proofs.Math.Option.{Option, none, some}
-use Rattle.paper_expressions.specs.Laws.Search.{no_clash}
+use Rattle.paper_expressions.proofs.Laws.Search.{no_clash}
 use Rattle.paper_rows.specs.Table.{Kind, task, data_item, candidate, argument, parameter, source, warning_condition, Component, ◌№◌, Property, state, trigger_active, confirmed, cycle_count, nbr_cycles_value, start_at, in_progress_time, discarded_time, completed_time, actual_procedure, requested, value, RowValue, unknown_row, Table}
 use Rattle.paper_engine.specs.Cycle.{OnlyRow, Collision, Enacted, not_named, enact_c, enact_d}
 use Rattle.paper_engine.specs.Cycle as Cycle

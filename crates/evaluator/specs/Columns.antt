@@ -4,7 +4,7 @@ use Rattle.std.proofs.Math.Option.{Option, none, some}
 use Rattle.paper_expressions.specs.Values as paper
 use Rattle.paper_expressions.specs.Values.{one, sequence}
 use Rattle.paper_expressions.specs.View.{View, Item, At, Apart}
-use Rattle.paper_expressions.specs.Laws.WithinLimits.{Held}
+use Rattle.paper_expressions.proofs.Laws.WithinLimits.{Held}
 use Rattle.parts.specs.Texts.{literal}
 use Rattle.parts.specs.Part.{Table}
 use Rattle.parts.specs.Items.{Items}

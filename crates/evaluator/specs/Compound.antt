@@ -9,9 +9,9 @@ use Rattle.paper_expressions.specs.View.{View, Apart}
 use Rattle.paper_expressions.specs.Operators.{Op, F}
 use Rattle.paper_expressions.specs.Expressions.{Expr, Exprs, Atom, IntegerLit, FloatLit, StringLit, Paren, Listing, Apply, ε, ◌▸◌}
 use Rattle.paper_expressions.specs.Evaluation.{Elements, elements_none, elements_more, Evaluates, listing, Values, values_none, values_more}
-use Rattle.paper_expressions.specs.Laws.WithinLimits as limits
-use Rattle.paper_expressions.specs.Laws.WithinLimits.{Held, Modest, listing_modest, apply_modest, AllModest, none_modest, EachLimited, all_limited}
-use Rattle.paper_expressions.specs.Laws.Promise as promise
+use Rattle.paper_expressions.proofs.Laws.WithinLimits as limits
+use Rattle.paper_expressions.proofs.Laws.WithinLimits.{Held, Modest, listing_modest, apply_modest, AllModest, none_modest, EachLimited, all_limited}
+use Rattle.paper_expressions.proofs.Laws.Promise as promise
 use Rattle.parts.specs.Codes.{code, kind}
 use Rattle.parts.specs.CodeRange.{operator_code}
 use Rattle.parts.specs.Part.{number_of, operands}

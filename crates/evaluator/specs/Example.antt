@@ -10,10 +10,10 @@ use Rattle.paper_expressions.specs.Types.{Integer, TruthValue, an_integer}
 use Rattle.paper_expressions.specs.View.{View, Item, Task, At, at_first, at_later}
 use Rattle.paper_expressions.specs.Operators.{if, extreme, min, is-in}
 use Rattle.paper_expressions.specs.Expressions.{Expr, Atom, IntegerLit, Listing, Apply, ε, ◌▸◌}
-use Rattle.paper_expressions.specs.Laws.WithinLimits.{Limited, one_limited, integer_small, Modest, atom_modest, integer_modest, listing_modest, apply_modest, none_modest, more_modest}
-use Rattle.paper_expressions.specs.Laws.Typing.{type_has}
-use Rattle.paper_expressions.specs.Laws.Promise.{eval_only}
-use Rattle.paper_expressions.specs.Laws.Soundness.{sound_if}
+use Rattle.paper_expressions.proofs.Laws.WithinLimits.{Limited, one_limited, integer_small, Modest, atom_modest, integer_modest, listing_modest, apply_modest, none_modest, more_modest}
+use Rattle.paper_expressions.proofs.Laws.Typing.{type_has}
+use Rattle.paper_expressions.proofs.Laws.Promise.{eval_only}
+use Rattle.paper_expressions.proofs.Laws.Soundness.{sound_if}
 use Rattle.parts.specs.Codes.{declared_code}
 use Rattle.parts.specs.Texts.{text_at_fn}
 use Rattle.parts.specs.Part.{Table, table, Ends, Within}

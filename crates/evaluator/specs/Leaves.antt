@@ -10,8 +10,8 @@ use Rattle.paper_expressions.specs.Clauses.{Clause}
 use Rattle.paper_expressions.specs.View.{View, Item, At, resolve_data_2, resolve_data_3, Apart}
 use Rattle.paper_expressions.specs.Expressions.{Expr, Atom, IntegerLit, FloatLit, StringLit, Paren, Listing, Apply}
 use Rattle.paper_expressions.specs.Evaluation.{EvaluateData, data_2, data_3, Evaluates, atom_data, atom_text, number_integer, number_float, string}
-use Rattle.paper_expressions.specs.Laws.Search.{at_one}
-use Rattle.paper_expressions.specs.Laws.WithinLimits.{Modest, integer_modest, float_modest}
+use Rattle.paper_expressions.proofs.Laws.Search.{at_one}
+use Rattle.paper_expressions.proofs.Laws.WithinLimits.{Modest, integer_modest, float_modest}
 use Rattle.parts.specs.Codes.{kind}
 use Rattle.parts.specs.CodeRange.{operator_code}
 use Rattle.parts.specs.Texts.{text_at_fn}

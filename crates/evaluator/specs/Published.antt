@@ -8,10 +8,10 @@ use Rattle.paper_expressions.specs.Clauses.{Clause}
 use Rattle.paper_expressions.specs.View.{View, Sound}
 use Rattle.paper_expressions.specs.Expressions.{Expr, HasType}
 use Rattle.paper_expressions.specs.Evaluation.{Evaluates}
-use Rattle.paper_expressions.specs.Laws.WithinLimits.{Modest}
-use Rattle.paper_expressions.specs.Laws.Search.{Same}
-use Rattle.paper_expressions.specs.Laws.Promise.{promised, one_value}
-use Rattle.paper_expressions.specs.Laws.Parentheses.{bare, value_of_bare}
+use Rattle.paper_expressions.proofs.Laws.WithinLimits.{Modest}
+use Rattle.paper_expressions.proofs.Laws.Search.{Same}
+use Rattle.paper_expressions.proofs.Laws.Promise.{promised, one_value}
+use Rattle.paper_expressions.proofs.Laws.Parentheses.{bare, value_of_bare}
 use Rattle.parts.specs.Part.{Table, Ends, Within}
 use Rattle.values.specs.declared.value.Value.{Value}
 use Rattle.values.specs.Meaning.{meaning_v}

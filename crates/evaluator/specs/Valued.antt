@@ -7,7 +7,7 @@ use Rattle.paper_expressions.specs.Clauses.{Clause}
 use Rattle.paper_expressions.specs.View.{View}
 use Rattle.paper_expressions.specs.Expressions.{Expr, Exprs}
 use Rattle.paper_expressions.specs.Evaluation.{Evaluates, Values, values_none, values_more}
-use Rattle.paper_expressions.specs.Laws.WithinLimits.{Modest, AllModest, none_modest, more_modest}
+use Rattle.paper_expressions.proofs.Laws.WithinLimits.{Modest, AllModest, none_modest, more_modest}
 use Rattle.parts.specs.Part.{Table, code_at, count_at, size_at, load_at, sizes, number_of, operands, Load, HoldsAll, Ends, Within, Withins}
 use Rattle.parts.specs.Operands.{ended, within_kids, nth_of, within_nth, Left, left_all, left_ends, left_step}
 use Rattle.values.specs.declared.value.Value.{Value}

@@ -2,9 +2,9 @@
 use Rattle.std.specs.Prelude.{ℕ, ◌+◌, ◌-◌, ◌≤◌, ◌<◌, ◌≡◌, refl, Bool, true, false, ◌⊎◌, List, [], ◌∷◌, ◌++◌, length, take, drop, get_or, set}
 use Rattle.std.proofs.Common.{arith, sym, ap, subst, ◌∙◌, ⊎_elim, append-nil, append_assoc, take-append-drop, take-suc, take-suc-set, add-one}
 use Rattle.std.proofs.Math.Seq.{take-length}
-use Rattle.paper_expressions.specs.Laws.Tests.{contra}
+use Rattle.paper_expressions.proofs.Laws.Tests.{contra}
 use Rattle.paper_tokens.specs.Tokens.{‘other-atom’, ‘yes-or-no’, ‘data-type’}
-use Rattle.paper_grammar.specs.Laws.Ll.{is_in}
+use Rattle.paper_grammar.proofs.Laws.Ll.{is_in}
 use Rattle.paper_guideline.specs.LeftOut.{left_out_words}
 use Rattle.grammar.specs.declared.Answer.{Answer}
 use Rattle.paper_grammar.specs.Nonterminals.{⟨process⟩}

@@ -5,7 +5,7 @@ use Rattle.std.proofs.Math.Path.{refl, ap}
 use mathlib.Core.List.{List, [], ◌∷◌, ◌++◌, append_assoc}
 use Rattle.std.proofs.Math.Seq.{take-append-add}
 use Rattle.std.proofs.lemmas.Bool.{eqb-false}
-use Rattle.paper_expressions.specs.Laws.Tests.{two, contra, or_cases}
+use Rattle.paper_expressions.proofs.Laws.Tests.{two, contra, or_cases}
 use Rattle.paper_tokens.specs.Kinds.{other, letter, power, digit, minus, point, quote, backslash, blank, slash, star, high, double_quote, kind_of}
 use Rattle.paper_tokens.specs.Forms.{any, one, ◌then◌, ◌or◌, no, One, Then, Match, is_in}
 use Rattle.paper_tokens.specs.Lexical.{Rule, atom, double_quoted_string, bare_atom, enclosed, quoted_atom, string_form, Matches, part, Fits, Stuck}

@@ -3,7 +3,7 @@ use Rattle.std.specs.Prelude.{ℕ, zero, suc, ◌+◌, ◌*◌, ◌-◌, ◌≤�
 use Prim.Native.String.{String}
 use Rattle.std.proofs.Common.{arith, le_of_suc-le-suc, not-suc-le-zero, sym, ap, subst, ◌∙◌, ⊎_elim, get_or-append-add, leb-true, ltb-true, ltb-false, ne_eqb}
 use Rattle.std.proofs.Math.ListN.{get_or-append, get_or-map}
-use Rattle.paper_expressions.specs.Laws.Tests.{and_l, and_r, two, every}
+use Rattle.paper_expressions.proofs.Laws.Tests.{and_l, and_r, two, every}
 use Rattle.paper_expressions.specs.Bytes.{bytes}
 use Rattle.paper_tokens.specs.Words.{reserved}
 

@@ -1,9 +1,9 @@
 -- Which rule on names a row breaks, as it is told to a person: with the row of the other definition. Definitions, and at the end what the code finds out of them.
 use Rattle.std.specs.Prelude.{ℕ, ◌≤◌, ◌<◌, ◌≡◌, Bool, true, false, ◌&&◌, ◌||◌, List, [], ◌∷◌, ltb, eqb}
 use Rattle.std.proofs.Common.{sym, ap, subst, ◌∙◌, lt-ltb, le-ltb, ne_eqb}
-use Rattle.paper_expressions.specs.Laws.Search.{sameb}
+use Rattle.paper_expressions.proofs.Laws.Search.{sameb}
 use Rattle.paper_tokens.specs.Tokens.{“data”, “=”, “component”, “source”, “schedule-constraint”}
-use Rattle.paper_grammar.specs.Laws.Ll.{is_in}
+use Rattle.paper_grammar.proofs.Laws.Ll.{is_in}
 use Rattle.parts.specs.Texts.{text_at_fn}
 use Rattle.row_names.specs.Sheet.{task_kind, once}
 use Rattle.row_tests.specs.Table.{cell_of, kind_of, component_named}

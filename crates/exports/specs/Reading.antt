@@ -6,7 +6,7 @@ use Rattle.std.proofs.Math.Option.{Option}
 use Rattle.paper_expressions.specs.Values.{Value}
 use Rattle.paper_calls.specs.Calls as Calls
 use Calls.{Reply, State, read_row}
-use Rattle.paper_calls.specs.Laws.TotalLaws.{is_read}
+use Rattle.paper_calls.proofs.Laws.TotalLaws.{is_read}
 use Rattle.state.specs.Items.{Bounded, Holds}
 use Rattle.replying.specs.Replying.{Holding, Replies}
 use Rattle.replying.specs.OneReply.{one_reply}

@@ -1,17 +1,17 @@
 -- Laws of what holds tightest: brackets that open and close, a single token, and minuses before it. By the first token of a tree.
 use Rattle.std.specs.Prelude.{ℕ, suc, ◌+◌, ◌*◌, ◌-◌, ◌≤◌, ◌<◌, ◌≡◌, refl, true, false, List, [], ◌∷◌, eqb, leb, length, get_or}
 use Rattle.std.proofs.Common.{sym, ap, subst, ◌∙◌, ⊎_elim, arith, leb-true, leb-false}
-use Rattle.paper_expressions.specs.Laws.Tests.{two, contra}
-use Rattle.paper_expressions.specs.Laws.Functors.{functor_f}
+use Rattle.paper_expressions.proofs.Laws.Tests.{two, contra}
+use Rattle.paper_expressions.proofs.Laws.Functors.{functor_f}
 use Rattle.paper_expressions.specs.Expressions.{Expr, Exprs, Listing, Apply, ε, ◌▸◌}
-use Rattle.paper_expressions.specs.Laws.Parentheses.{bare, bares}
+use Rattle.paper_expressions.proofs.Laws.Parentheses.{bare, bares}
 use Rattle.paper_guideline.specs.Limits.{guideline_limit, bracket_limit, part_limit, larger, depth, count, deepest, longest_list}
 use Rattle.paper_tokens.specs.Lexical.{Token, atom, part}
 use Rattle.paper_tokens.specs.Terminals.{Terminal, name}
 use Rattle.paper_tokens.specs.Terminals
 use Rattle.paper_guideline.specs.Tree.{Where, anywhere, Tree, Trees, empty, nonempty}
 use Rattle.paper_guideline.specs.Refusals.{TokenBreach, TooManyOpen, one_too_many, one_more_open, one_fewer_open, Opening, opens_round, opens_square, Closing, closes_round, closes_square}
-use Rattle.paper_tokens.specs.Laws.TerminalLaws.{terminal_f, terminal_is, atom-kind}
+use Rattle.paper_tokens.proofs.Laws.TerminalLaws.{terminal_f, terminal_is, atom-kind}
 use Rattle.parts.specs.Codes.{kind}
 use Rattle.parts.specs.Operands.{size_pos}
 use Rattle.parts.specs.Part.{table, size, sizes, number_of, Root, Holds, HoldsAll}

@@ -1,16 +1,16 @@
 -- Laws of the reader's two loops: the elements of a list, and operands with operators between them.
 use Rattle.std.specs.Prelude.{ℕ, ◌+◌, ◌*◌, ◌-◌, ◌≤◌, ◌<◌, ◌≡◌, refl, true, false, ◌⊎◌, List, ◌∷◌, leb, ltb, length, get_or, set}
 use Rattle.std.proofs.Common.{sym, ap, subst, ◌∙◌, inl, inr, ⊎_elim, arith, leb-true, leb-false, ltb-true}
-use Rattle.paper_expressions.specs.Laws.Tests.{two}
+use Rattle.paper_expressions.proofs.Laws.Tests.{two}
 use Rattle.paper_expressions.specs.Expressions.{Expr, Exprs, ε, ◌▸◌}
-use Rattle.paper_expressions.specs.Laws.Parentheses.{bare, bares}
+use Rattle.paper_expressions.proofs.Laws.Parentheses.{bare, bares}
 use Rattle.paper_guideline.specs.Limits.{larger, depth, deepest, longest_list, longest_lists}
 use Rattle.paper_tokens.specs.Lexical.{Token}
 use Rattle.paper_tokens.specs.Terminals.{Terminal}
 use Rattle.paper_guideline.specs.Tree.{Where, anywhere, assigned, Tree, Trees, empty, nonempty, SomeTrees}
 use Rattle.paper_guideline.specs.Refusals.{TooManyOpen}
-use Rattle.paper_tokens.specs.Laws.TerminalLaws.{terminal_is, one_terminal}
-use Rattle.paper_guideline.specs.Laws.TreeLaws.{Ends}
+use Rattle.paper_tokens.proofs.Laws.TerminalLaws.{terminal_is, one_terminal}
+use Rattle.paper_guideline.proofs.Laws.TreeLaws.{Ends}
 use Rattle.parts.specs.Part.{table, size, sizes, Holds, HoldsAll}
 use Rattle.leaves.specs.Source.{Source, Stand}
 use Rattle.expression_steps.specs.declared.Built.{Built}

@@ -3,11 +3,11 @@
 use Rattle.std.specs.Prelude.{ℕ, suc, ◌+◌, ◌*◌, ◌-◌, ◌≤◌, ◌<◌, ◌≡◌, refl, true, false, List, length}
 use Rattle.std.proofs.Common.{sym, ap, subst, ◌∙◌, arith}
 use Rattle.paper_expressions.specs.Expressions.{Expr, Exprs, Atom, IntegerLit, FloatLit, StringLit, Paren, Listing, Apply, ε, ◌▸◌}
-use Rattle.paper_expressions.specs.Laws.Parentheses.{bare, bares}
+use Rattle.paper_expressions.proofs.Laws.Parentheses.{bare, bares}
 use Rattle.paper_guideline.specs.Limits.{guideline_limit, bracket_limit, part_limit, parts, parts_of, depth, deepest, longest_list}
 use Rattle.paper_tokens.specs.Lexical.{Token}
 use Rattle.paper_guideline.specs.Tree.{Where, Tree}
-use Rattle.paper_guideline.specs.Laws.TreeLaws.{Ends}
+use Rattle.paper_guideline.proofs.Laws.TreeLaws.{Ends}
 use Rattle.paper_guideline.specs.Refusals.{TooManyOpen}
 use Rattle.parts.specs.Part.{table, size, sizes, Holds, Within, Withins}
 use Rattle.leaves.specs.Source.{Source, Stand, Clean}

@@ -1,7 +1,7 @@
 -- What the functions around the cycle of the reader have to do: a single token, a functor name before a parenthesis, elements, and a bracket that closes. Definitions only.
 use Rattle.std.specs.Prelude.{ℕ, ◌+◌, ◌≤◌, ◌<◌, ◌≡◌, Bool, true, false, List, ◌∷◌, length}
 use Rattle.paper_expressions.specs.Expressions.{Expr, Exprs, ε}
-use Rattle.paper_expressions.specs.Laws.Parentheses.{bares}
+use Rattle.paper_expressions.proofs.Laws.Parentheses.{bares}
 use Rattle.paper_guideline.specs.Limits.{guideline_limit, larger, depth, count, deepest, longest_lists}
 use Rattle.paper_tokens.specs.Lexical.{Token, atom}
 use Rattle.paper_tokens.specs.Terminals.{Terminal, name}

@@ -3,17 +3,17 @@ use Rattle.std.specs.Prelude.{ℕ, suc, ◌+◌, ◌*◌, ◌-◌, ◌≤◌, �
 use Rattle.std.proofs.Common.{sym, ap, subst, ◌∙◌, ⊎_elim, add-one, arith, get_or-set_same, get_or-set_other, eqb-true, ne_eqb}
 use mathlib.Core.List.{List, ◌∷◌, Memᴰ}
 use Rattle.std.proofs.lemmas.Bool.{eqb-false}
-use Rattle.paper_expressions.specs.Laws.Tests.{two}
+use Rattle.paper_expressions.proofs.Laws.Tests.{two}
 use Rattle.paper_expressions.specs.Operators.{Op}
 use Rattle.paper_expressions.specs.Expressions.{Expr, Apply, ε, ◌▸◌}
-use Rattle.paper_expressions.specs.Laws.Parentheses.{bare}
+use Rattle.paper_expressions.proofs.Laws.Parentheses.{bare}
 use Rattle.paper_guideline.specs.Limits.{larger, depth, longest_list}
 use Rattle.paper_tokens.specs.Lexical.{Token}
 use Rattle.paper_tokens.specs.Terminals.{Terminal}
 use Rattle.paper_guideline.specs.Tree
 use Tree.{infixes, Where, MayStand, Tree, infix_operator, looser, unary_minus, an_atom, an_integer, a_float, a_string, parentheses, a_list, a_call}
-use Rattle.paper_tokens.specs.Laws.TerminalLaws.{terminal_f, terminal_is}
-use Rattle.paper_guideline.specs.Laws.TreeLaws.{Ends, shorter}
+use Rattle.paper_tokens.proofs.Laws.TerminalLaws.{terminal_f, terminal_is}
+use Rattle.paper_guideline.proofs.Laws.TreeLaws.{Ends, shorter}
 use Rattle.parts.specs.Part.{table, size, Holds}
 use Rattle.leaves.specs.Source.{Source}
 use Rattle.expression_steps.specs.Rows.{Kept, holds_kept}

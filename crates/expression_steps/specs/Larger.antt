@@ -2,7 +2,7 @@
 use Rattle.std.specs.Prelude.{ℕ, zero, suc, ◌+◌, ◌-◌, ◌≤◌, ◌<◌, ◌≡◌, refl, true, false, ◌⊎◌, List, leb, length}
 use Rattle.std.proofs.Common.{◌∙◌, inl, inr, ⊎_elim, arith, leb-true, leb-false, le-leb}
 use Rattle.std.proofs.lemmas.Bool.{lt-leb}
-use Rattle.paper_expressions.specs.Laws.Tests.{two}
+use Rattle.paper_expressions.proofs.Laws.Tests.{two}
 use Rattle.paper_expressions.specs.Expressions.{Expr, Exprs}
 use Rattle.paper_guideline.specs.Limits.{larger, depth, deepest, parts, longest_list}
 use Rattle.paper_tokens.specs.Lexical.{Token}

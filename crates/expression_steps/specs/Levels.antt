@@ -5,13 +5,13 @@ use Rattle.std.proofs.Common.{sym, ap, subst, ◌∙◌, ⊎_elim, not-suc-le-ze
 use Rattle.std.proofs.Math.Option.{Option, none, some}
 use mathlib.Core.List.{List, [], ◌∷◌, Memᴰ}
 use Rattle.std.proofs.lemmas.Bool.{eqb-false, not-true}
-use Rattle.paper_expressions.specs.Laws.Tests.{two, contra, and_l, and_r, every, every_at}
+use Rattle.paper_expressions.proofs.Laws.Tests.{two, contra, and_l, and_r, every, every_at}
 use Rattle.paper_expressions.specs.Operators.{Op}
 use Rattle.paper_tokens.specs.Tokens.{“and”, terminals}
 use Rattle.paper_tokens.specs.Lexical.{Token}
 use Rattle.paper_guideline.specs.Tree.{infixes, Where, anywhere, assigned, MayStand, any_operator, but_and}
-use Rattle.paper_tokens.specs.Laws.TerminalLaws.{terminal_f, terminal_is}
-use Rattle.paper_guideline.specs.Laws.TreeLaws.{infix_f, joins, Ends}
+use Rattle.paper_tokens.proofs.Laws.TerminalLaws.{terminal_f, terminal_is}
+use Rattle.paper_guideline.proofs.Laws.TreeLaws.{infix_f, joins, Ends}
 use Rattle.parts.specs.Codes.{code}
 use Rattle.leaves.specs.Source.{Source, Stand, at_end, at_token}
 

@@ -3,12 +3,12 @@ use Rattle.std.specs.Prelude.{ℕ, zero, suc, ◌+◌, ◌*◌, ◌-◌, ◌≤�
 use mathlib.Core.List.{List, ◌∷◌, Memᴰ}
 use Rattle.paper_expressions.specs.Operators.{Op, negate}
 use Rattle.paper_expressions.specs.Expressions.{Expr, Exprs, Listing, Apply, ε, ◌▸◌}
-use Rattle.paper_expressions.specs.Laws.Parentheses.{bare}
+use Rattle.paper_expressions.proofs.Laws.Parentheses.{bare}
 use Rattle.paper_guideline.specs.Limits.{guideline_limit, bracket_limit, part_limit, larger, depth, longest_list}
 use Rattle.paper_tokens.specs.Lexical.{Token}
 use Rattle.paper_tokens.specs.Terminals.{Terminal}
 use Rattle.paper_guideline.specs.Tree.{infixes, Where, MayStand, Tree, Trees}
-use Rattle.paper_guideline.specs.Laws.TreeLaws.{Ends}
+use Rattle.paper_guideline.proofs.Laws.TreeLaws.{Ends}
 use Rattle.paper_guideline.specs.Refusals.{TooManyOpen}
 use Rattle.parts.specs.Part.{table, size, Holds}
 use Rattle.leaves.specs.declared.Word.{Word}

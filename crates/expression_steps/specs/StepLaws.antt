@@ -3,12 +3,12 @@ use Rattle.std.specs.Prelude.{ℕ, zero, suc, ◌+◌, ◌*◌, ◌-◌, ◌≤�
 use Rattle.std.proofs.Common.{sym, ap, subst, ◌∙◌, add-one, arith}
 use Rattle.paper_expressions.specs.Operators.{Op, negate}
 use Rattle.paper_expressions.specs.Expressions.{Expr, Apply, ε, ◌▸◌}
-use Rattle.paper_expressions.specs.Laws.Parentheses.{bare}
+use Rattle.paper_expressions.proofs.Laws.Parentheses.{bare}
 use Rattle.paper_guideline.specs.Limits.{part_limit, larger, depth, longest_list}
 use Rattle.paper_tokens.specs.Lexical.{Token}
 use Rattle.paper_guideline.specs.Tree.{Where, Tree}
 use Rattle.paper_guideline.specs.Refusals.{TooManyOpen, as_many_open, Opening, opens_round, opens_square, Closing, closes_round, closes_square}
-use Rattle.paper_tokens.specs.Laws.TerminalLaws.{terminal_f, terminal_is}
+use Rattle.paper_tokens.proofs.Laws.TerminalLaws.{terminal_f, terminal_is}
 use Rattle.parts.specs.Codes.{code}
 use Rattle.parts.specs.Part.{table, size, Root, Holds}
 use Rattle.leaves.specs.Source.{Source, Here, Stand, at_token}

@@ -2,7 +2,7 @@
 use Rattle.std.specs.Prelude.{ℕ, suc, ◌≤◌, ◌<◌, ◌≡◌, refl, ◌⊎◌, List, [], ◌∷◌, length}
 use Rattle.std.proofs.Common.{subst, inl, inr, arith}
 use Rattle.paper_expressions.specs.Operators.{Op, negate}
-use Rattle.paper_expressions.specs.Laws.Functors.{functor_f, functor_only}
+use Rattle.paper_expressions.proofs.Laws.Functors.{functor_f, functor_only}
 use Rattle.paper_expressions.specs.Expressions.{Expr, Exprs, Paren, Listing, Apply, ε, ◌▸◌}
 use Rattle.paper_tokens.specs.Tokens.{“-”, “open”, “close”, “[”, “]”, “comma”}
 use Rattle.paper_tokens.specs.Lexical.{Token, atom}
@@ -10,8 +10,8 @@ use Rattle.paper_tokens.specs.Terminals.{Terminal, name}
 use Rattle.paper_tokens.specs.Terminals
 use Rattle.paper_guideline.specs.Tree
 use Tree.{Where, anywhere, Tree, infix_operator, looser, unary_minus, an_atom, an_integer, a_float, a_string, parentheses, a_list, a_call, Trees, SomeTrees, last, then_more}
-use Rattle.paper_tokens.specs.Laws.TerminalLaws.{terminal_f, terminal_is, atom-kind}
-use Rattle.paper_guideline.specs.Laws.TreeLaws.{shorter, Ends, ends_at, infix_f}
+use Rattle.paper_tokens.proofs.Laws.TerminalLaws.{terminal_f, terminal_is, atom-kind}
+use Rattle.paper_guideline.proofs.Laws.TreeLaws.{shorter, Ends, ends_at, infix_f}
 use Rattle.leaves.specs.Leaf.{Leaf}
 use Rattle.leaves.specs.Leaf as L
 use Rattle.expression_steps.specs.Levels.{infix_is, kind_of}

@@ -4,7 +4,7 @@ use Rattle.std.proofs.Common.{arith, not-suc-le-zero, sym, ap, subst, ◌∙◌,
 use Rattle.std.proofs.Math.Decide.{dec_lt, ℕ_discrete}
 use Rattle.paper_expressions.specs.Values as paper
 use Rattle.paper_expressions.specs.Values.{one, unknown}
-use Rattle.paper_expressions.specs.Laws.WithinLimits.{Limited}
+use Rattle.paper_expressions.proofs.Laws.WithinLimits.{Limited}
 use Rattle.paper_guideline.specs.Structure.{TopLevel}
 use Rattle.paper_guideline.specs.Limits.{depth_limit}
 use Rattle.paper_rows.specs.Table.{data_item, Component, ◌№◌, Property, value, RowValue, time_is, Table}

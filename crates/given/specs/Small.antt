@@ -1,9 +1,9 @@
 -- When a text that a caller gives is within the limits, by its bytes.
 use Rattle.std.specs.Prelude.{ℕ, zero, suc, ◌+◌, ◌<◌, ◌≤◌, ◌≡◌, refl, Bool, true, false, List, [], ◌∷◌, get_or, length}
 use Rattle.std.proofs.Common.{arith, not-suc-le-zero, sym, ap, subst, ◌∙◌, below_more}
-use Rattle.paper_expressions.specs.Laws.Tests.{contra}
+use Rattle.paper_expressions.proofs.Laws.Tests.{contra}
 use Rattle.paper_expressions.specs.View.{At, at_first, at_later}
-use Rattle.paper_rows.specs.Laws.Lists.{at_below}
+use Rattle.paper_rows.proofs.Laws.Lists.{at_below}
 use Rattle.paper_calls.specs.Calls.{SmallText}
 use Rattle.parts.specs.Texts.{cells}
 use Rattle.blocks.specs.Blocks.{cells_long, cells_at}

@@ -11,9 +11,9 @@ use lib.Dec.{eqb, ltb}
 use lib.ListN.{length, get_or, drop, set, length-set, drop_of_length-le}
 use lib.Seq.{drop-cons, drop-set-lt, get_or-set_same}
 use borrow.Author.Tests.{eq-eqb, ne_eqb, eqb-true, eqb-false}
-use Rattle.paper_expressions.specs.Laws.Tests.{contra, and_l, and_r, two}
-use Rattle.paper_grammar.specs.Laws.Ll.{Sym, T, N, Alt, ◌⇒◌, Next, stop, go, find, choose, adv, blank}
-use Rattle.paper_grammar.specs.Laws.Form.{G}
+use Rattle.paper_expressions.proofs.Laws.Tests.{contra, and_l, and_r, two}
+use Rattle.paper_grammar.proofs.Laws.Ll.{Sym, T, N, Alt, ◌⇒◌, Next, stop, go, find, choose, adv, blank}
+use Rattle.paper_grammar.proofs.Laws.Form.{G}
 use Rattle.grammar.specs.Tables.{sym_of, side, alt_of, side_of, choice_of}
 use Rattle.grammar.specs.Machine.{passed, past}
 use Rattle.grammar.proofs.TableLaws.{is_token, is_symbol, side_is, choice_none, choice_some}

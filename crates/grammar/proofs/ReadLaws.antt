@@ -6,8 +6,8 @@ use native.Mathlib.Omega.{arith}
 use lib.ListN.{length, drop, set, length-set, drop_of_length-le}
 use lib.Seq.{drop-cons, get_or-set_same}
 use Rattle.paper_guideline.specs.Limits.{token_limit}
-use Rattle.paper_grammar.specs.Laws.Ll.{Sym, N}
-use Rattle.paper_grammar.specs.Laws.Same.{accepts_sentence, refuses_at}
+use Rattle.paper_grammar.proofs.Laws.Ll.{Sym, N}
+use Rattle.paper_grammar.proofs.Laws.Same.{accepts_sentence, refuses_at}
 use Rattle.grammar.specs.declared.Start.{Start}
 use Rattle.grammar.specs.declared.Answer.{Answer}
 use Rattle.grammar.specs.declared.Answer.TheVariants.{Accepted, Refused, Unread}

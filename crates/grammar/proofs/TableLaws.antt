@@ -12,9 +12,9 @@ use lib.Dec.{eqb, ltb, leb}
 use lib.ListN.{length, get_or, take, drop, length-append, length-take, drop_of_length-le, length-map, get_or-append, get_or-eq_default, get_or-map}
 use lib.Seq.{slice, slice-cons, take-append_seam, take-append-add, drop-append-add, get_or-append-add, get_or-take, get_or-drop}
 use borrow.Author.Tests.{eq-eqb, ne_eqb, ltb-true, ltb-false, leb-true, le-ltb, lt-ltb}
-use Rattle.paper_expressions.specs.Laws.Tests.{and_l, and_r, two, every}
-use Rattle.paper_grammar.specs.Laws.Ll.{Sym, T, N, Alt, ◌⇒◌, find}
-use Rattle.paper_grammar.specs.Laws.Form.{rows, blanks, G}
+use Rattle.paper_expressions.proofs.Laws.Tests.{and_l, and_r, two, every}
+use Rattle.paper_grammar.proofs.Laws.Ll.{Sym, T, N, Alt, ◌⇒◌, find}
+use Rattle.paper_grammar.proofs.Laws.Form.{rows, blanks, G}
 use Rattle.grammar.specs.Tables.{code, sym_of, cells, record_of, side, first, joined, alternatives, offsets, alternatives_table, rows_table, empty_table, table, alt_of, byte_of, side_of, seek_in, choice_of}
 
 -- the ten bytes of each alternative

@@ -7,8 +7,8 @@ use native.Mathlib.Omega.{arith}
 use native.Mathlib.Numerals.{add-one}
 use lib.ListN.{length, get_or, drop, drop_of_length-le}
 use lib.Seq.{drop-cons}
-use Rattle.paper_grammar.specs.Laws.Ll.{Sym, Next, stop, go, accept, refuse, after, adv, blank, run}
-use Rattle.paper_grammar.specs.Laws.Form.{G}
+use Rattle.paper_grammar.proofs.Laws.Ll.{Sym, Next, stop, go, accept, refuse, after, adv, blank, run}
+use Rattle.paper_grammar.proofs.Laws.Form.{G}
 use Rattle.grammar.specs.declared.Answer.TheVariants.{Accepted, Refused}
 use Rattle.grammar.specs.declared.Turn.{Turn}
 use Rattle.grammar.specs.Machine.{Stepped, Ends}

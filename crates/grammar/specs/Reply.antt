@@ -3,7 +3,7 @@ use Rattle.std.specs.Prelude.{ℕ, ◌≤◌, ◌<◌, List, length}
 use Rattle.paper_guideline.specs.Limits.{token_limit}
 use Rattle.paper_grammar.specs.Nonterminals.{⟨process⟩, ⟨expression⟩}
 use Rattle.paper_grammar.specs.Sentence.{SentenceOf, FirstBad}
-use Rattle.paper_grammar.specs.Laws.Form.{‹Process›, ‹Expr›}
+use Rattle.paper_grammar.proofs.Laws.Form.{‹Process›, ‹Expr›}
 use Rattle.grammar.specs.declared.Start.{Start}
 use Rattle.grammar.specs.declared.Start.TheVariants.{Process, Expression}
 use Rattle.grammar.specs.declared.Answer.{Answer}

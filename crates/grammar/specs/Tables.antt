@@ -1,7 +1,7 @@
 -- What the code's tables hold: Form's rows and blanks, written as bytes. Definitions only.
 use Rattle.std.specs.Prelude.{ℕ, zero, suc, ◌+◌, ◌-◌, Bool, true, false, cond, List, [], ◌∷◌, ◌++◌, map, eqb, ltb, length, get_or}
-use Rattle.paper_grammar.specs.Laws.Ll.{Sym, T, N, Alt, ◌⇒◌}
-use Rattle.paper_grammar.specs.Laws.Form.{rows, blanks, G}
+use Rattle.paper_grammar.proofs.Laws.Ll.{Sym, T, N, Alt, ◌⇒◌}
+use Rattle.paper_grammar.proofs.Laws.Form.{rows, blanks, G}
 
 -- a symbol as a byte, and back
 abbrev pub code : Sym ℕ → ℕ

@@ -4,8 +4,8 @@
 
 ghost use Rattle.std.specs.Prelude.{◌≡◌, map, ◌++◌, ◌+◌, ◌≤◌, ◌<◌, length, drop};
 ghost use Rattle.std.proofs.Math.Seq.{slice};
-ghost use Rattle.paper_grammar.specs.Laws.Ll.{Sym, blank};
-ghost use Rattle.paper_grammar.specs.Laws.Form.{G};
+ghost use Rattle.paper_grammar.proofs.Laws.Ll.{Sym, blank};
+ghost use Rattle.paper_grammar.proofs.Laws.Form.{G};
 ghost use Rattle.paper_guideline.specs.Limits.{token_limit};
 ghost use Rattle.grammar.specs.Tables.{table, sym_of, alternatives, byte_of, side_of, seek_in, choice_of};
 ghost use Rattle.grammar.specs.Machine.{passed, past, Stepped, Ends};

@@ -1,7 +1,7 @@
 -- Where no bracket is one too many, none of the tokens behind is. By the terminals of the columns, and by induction on the derivation of a tree.
 use Rattle.std.specs.Prelude.{ℕ, ◌+◌, ◌-◌, ◌≡◌, true, false, List, ◌∷◌, eqb}
 use Rattle.std.proofs.Common.{sym, subst, ◌∙◌, ⊎_elim, eqb-true, eq-eqb}
-use Rattle.paper_expressions.specs.Laws.Tests.{two, contra}
+use Rattle.paper_expressions.proofs.Laws.Tests.{two, contra}
 use Rattle.paper_expressions.specs.Expressions.{Expr}
 use Rattle.paper_tokens.specs.Tokens.{“open”, “close”, “[”, “]”}
 use Rattle.paper_tokens.specs.Lexical.{Token}
@@ -9,7 +9,7 @@ use Rattle.paper_tokens.specs.Terminals.{Terminal}
 use Rattle.paper_guideline.specs.Tree
 use Tree.{Where, Tree, infix_operator, looser, unary_minus, an_atom, an_integer, a_float, a_string, parentheses, a_list, a_call, empty, nonempty, last, then_more}
 use Rattle.paper_guideline.specs.Refusals.{TooManyOpen, one_more_open, one_fewer_open, as_many_open, Opening, opens_round, opens_square, Closing, closes_round, closes_square}
-use Rattle.paper_tokens.specs.Laws.TerminalLaws.{one_terminal}
+use Rattle.paper_tokens.proofs.Laws.TerminalLaws.{one_terminal}
 use Rattle.leaves.specs.Source.{Source, Stand, at_token}
 use Rattle.guideline_rows.specs.Rows.{Row}
 use Rattle.guideline_rows.specs.Flat

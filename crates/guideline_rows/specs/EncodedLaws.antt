@@ -3,7 +3,7 @@ use Rattle.std.specs.Prelude.{ℕ, ◌+◌, ◌*◌, ◌≡◌, refl, List, [], 
 use Rattle.std.proofs.Common.{sym, ap, ◌∙◌, append_assoc, append-nil, arith, length-append}
 use Rattle.std.proofs.Math.Option.{Option, none, some}
 use Rattle.paper_expressions.specs.Expressions.{Expr, Exprs, Atom, IntegerLit, FloatLit, StringLit, Paren, Listing, Apply, ε, ◌▸◌}
-use Rattle.paper_expressions.specs.Laws.Parentheses.{bare, bares}
+use Rattle.paper_expressions.proofs.Laws.Parentheses.{bare, bares}
 use Rattle.paper_guideline.specs.Structure.{Outermost}
 use Rattle.parts.specs.Part.{size, sizes}
 use Rattle.parts.specs.Encode.{Part, flat, spelling, encode, encodes}

@@ -5,11 +5,11 @@ use Rattle.paper_expressions.specs.Expressions.{Expr}
 use Rattle.paper_tokens.specs.Tokens
 use Tokens.{“plan”, “action”, “enquiry”, “data”, “semicolon”, “open”, “close”, “and”}
 use Tokens.{“caption”, “description”, “precondition”, “wait-condition”, “postcondition”, “trigger”, “terminate”, “component”, “source”, “schedule-constraint”, “terminal”, “mandatory”}
-use Rattle.paper_grammar.specs.Laws.Ll.{is_in}
+use Rattle.paper_grammar.proofs.Laws.Ll.{is_in}
 use Rattle.paper_tokens.specs.Lexical.{Token, atom}
 use Rattle.paper_tokens.specs.Terminals.{Terminal}
 use Rattle.paper_guideline.specs.Tree.{anywhere, assigned, Tree}
-use Rattle.paper_guideline.specs.Laws.TreeLaws.{Ends}
+use Rattle.paper_guideline.proofs.Laws.TreeLaws.{Ends}
 use Rattle.paper_guideline.specs.Structure.{Class, class_word, YesOrNo, DataType}
 use Rattle.expression_steps.specs.Levels.{kind_of}
 use Rattle.guideline_rows.specs.Rows.{named, Row, a_task, a_data_item, with_expression, with_name, with_answer, a_postcondition, an_assignment}

@@ -13,8 +13,8 @@ use Structure.{Says, says, SaysYesOrNo, says_yes_or_no, SaysName, says_name, Ser
 use Structure.{ComponentAttributeAt, constraint, is_terminal, GenericAt, a_caption, a_description, SourceAttributeAt, a_source_generic, is_mandatory}
 use Structure.{AttributeAt, a_precondition, a_wait_condition, a_postcondition, a_trigger, a_component, a_terminate_condition, a_source, class_word, TaskAt, a_task}
 use Structure.{DataItemAt, a_data_item, TopLevelAt, a_top_task, a_top_data_item, Structure, guideline}
-use Rattle.paper_tokens.specs.Laws.TerminalLaws.{terminal_is, atom-kind}
-use Rattle.paper_guideline.specs.Laws.TreeLaws.{infix_f, Ends, ends_at, shorter}
+use Rattle.paper_tokens.proofs.Laws.TerminalLaws.{terminal_is, atom-kind}
+use Rattle.paper_guideline.proofs.Laws.TreeLaws.{infix_f, Ends, ends_at, shorter}
 use Rattle.expression_steps.specs.Levels.{kind_of}
 use Rattle.guideline_rows.specs.Rows
 use Rows.{named, Row, with_expression, with_name, with_answer, an_assignment, generic_row, component_row, source_row, placed_rows, attribute_rows, attributes_rows, flatten}

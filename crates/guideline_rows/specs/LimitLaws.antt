@@ -8,12 +8,12 @@ use Rattle.paper_expressions.specs.View.{At, at_first, at_later}
 use Rattle.paper_expressions.specs.Operators.{Op, ◌means◌, Functor, of_section_11, of_no_section}
 use Rattle.paper_expressions.specs.Operators as Operators
 use Rattle.paper_expressions.specs.Expressions.{Expr}
-use Rattle.paper_expressions.specs.Laws.Parentheses.{bare, bares}
+use Rattle.paper_expressions.proofs.Laws.Parentheses.{bare, bares}
 use Rattle.paper_tokens.specs.Lexical.{Token, atom}
 use Rattle.paper_guideline.specs.Tree
 use Tree.{infixes, Where, Tree, infix_operator, looser, unary_minus, an_atom, an_integer, a_float, a_string, parentheses, a_list, a_call, empty, nonempty, last, then_more}
 use Rattle.paper_guideline.specs.Structure.{Name, Outermost, TopLevel}
-use Rattle.paper_guideline.specs.Laws.TreeLaws.{Each, all, ◌&◌, each_at}
+use Rattle.paper_guideline.proofs.Laws.TreeLaws.{Each, all, ◌&◌, each_at}
 use Rattle.paper_guideline.specs.Refusals.{TokenBreach, long_name, long_text, large_integer, large_real, limit_stage, Breach, token_breach, Read}
 use Rattle.parts.specs.Encode.{name, Fits, AllFit}
 use Rattle.guideline_rows.specs.Rows.{named, Row, name_of, expression_of, flatten}

@@ -2,12 +2,12 @@
 -- Each name and each text stands in a token of its own, by induction on the tree and on the turns; and tokens don't overlap.
 use Rattle.std.specs.Prelude.{ℕ, ◌+◌, ◌≤◌, ◌≡◌, refl, Bool, true, false, ◌||◌, ◌&&◌, List, [], ◌∷◌, ◌++◌, eqb, length}
 use Rattle.std.proofs.Common.{sym, ap, ◌∙◌, ⊎_elim, append_assoc, arith, length-append, eqb-true}
-use Rattle.paper_expressions.specs.Laws.Tests.{two, and_l, and_r}
+use Rattle.paper_expressions.proofs.Laws.Tests.{two, and_l, and_r}
 use Rattle.paper_expressions.specs.View.{At, at_first, at_later}
 use Rattle.paper_expressions.specs.Operators.{Op, arithmetic, divide, compare, and, or, includes, oneof, if, negate, isknown, not, count, sum, extreme, nth, is-in, no_such}
 use Rattle.paper_expressions.specs.Operators.{Name, ◌means◌, Functor, of_section_11, of_no_section}
 use Rattle.paper_expressions.specs.Expressions.{Expr}
-use Rattle.paper_expressions.specs.Laws.Parentheses.{bare, bares}
+use Rattle.paper_expressions.proofs.Laws.Parentheses.{bare, bares}
 use Rattle.paper_guideline.specs.Limits.{guideline_limit}
 use Rattle.paper_tokens.specs.Lexical.{Token, inner, Tokens, at_end, skip, take_token}
 use Rattle.paper_tokens.specs.Terminals as Terminals

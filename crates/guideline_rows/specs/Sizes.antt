@@ -1,7 +1,7 @@
 -- The parts of a row's expression, which stand from u on: how many, the first, the one behind the last, and that the part table holds it. Definitions only.
 use Rattle.std.specs.Prelude.{ℕ, ◌+◌, List, [], ◌∷◌}
 use Rattle.std.proofs.Math.Option.{Option, none, some}
-use Rattle.paper_expressions.specs.Laws.Parentheses.{bare}
+use Rattle.paper_expressions.proofs.Laws.Parentheses.{bare}
 use Rattle.paper_guideline.specs.Structure.{Outermost}
 use Rattle.parts.specs.Part.{Table, size, Holds}
 use Rattle.guideline_rows.specs.Rows.{Row, expression_of}

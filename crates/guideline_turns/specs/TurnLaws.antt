@@ -3,18 +3,18 @@ use Rattle.std.specs.Prelude.{ℕ, ◌+◌, ◌*◌, ◌≤◌, ◌<◌, ◌≡�
 use Rattle.std.proofs.Common.{sym, ap, subst, ◌∙◌, ⊎_elim, inl, inr, arith, eqb-true, ne_eqb}
 use Rattle.std.proofs.Math.Option.{none, some}
 use Rattle.std.proofs.lemmas.Bool.{eqb-false}
-use Rattle.paper_expressions.specs.Laws.Tests.{two, contra}
-use Rattle.paper_expressions.specs.Laws.Parentheses.{bare}
+use Rattle.paper_expressions.proofs.Laws.Tests.{two, contra}
+use Rattle.paper_expressions.proofs.Laws.Parentheses.{bare}
 use Rattle.paper_expressions.specs.Expressions.{Expr}
 use Rattle.paper_expressions.specs.Limits.{list_limit}
 use Rattle.paper_guideline.specs.Limits.{guideline_limit, token_limit, part_limit, depth_limit, depth, longest_list}
 use Rattle.paper_tokens.specs.Tokens
 use Tokens.{“=”, “plan”, “action”, “enquiry”, “data”, “caption”, “description”, “precondition”, “wait-condition”, “postcondition”, “trigger”, “terminate”, “component”, “source”, “schedule-constraint”, “terminal”, “mandatory”}
-use Rattle.paper_grammar.specs.Laws.Ll.{is_in}
+use Rattle.paper_grammar.proofs.Laws.Ll.{is_in}
 use Rattle.paper_tokens.specs.Lexical.{Token, atom}
 use Rattle.paper_guideline.specs.Tree.{Where, anywhere, assigned}
 use Rattle.paper_guideline.specs.Structure.{Outermost}
-use Rattle.paper_tokens.specs.Laws.TerminalLaws.{terminal_is}
+use Rattle.paper_tokens.proofs.Laws.TerminalLaws.{terminal_is}
 use Rattle.parts.specs.Part.{table, size, Holds}
 use Rattle.leaves.specs.Source.{Source, Stand}
 use Rattle.expression_steps.specs.declared.Built.{Built}

@@ -3,9 +3,9 @@ use Rattle.std.specs.Prelude.{ℕ, suc, ◌+◌, ◌*◌, ◌/◌, ◌≤◌, �
 use Rattle.std.proofs.Common.{sym, ap, subst, ◌∙◌, arith, length-append, length-set, lt-ltb}
 use Rattle.std.proofs.Math.Option.{Option, none, some}
 use Rattle.std.proofs.Math.Decide.{dec_lt}
-use Rattle.paper_expressions.specs.Laws.Tests.{contra}
+use Rattle.paper_expressions.proofs.Laws.Tests.{contra}
 use Rattle.paper_expressions.specs.Limits as Values
-use Rattle.paper_expressions.specs.Laws.Parentheses.{bare}
+use Rattle.paper_expressions.proofs.Laws.Parentheses.{bare}
 use Rattle.paper_tokens.specs.Terminals as Terminals
 use Rattle.paper_guideline.specs.Limits.{guideline_limit, part_limit}
 use Rattle.paper_guideline.specs.Refusals.{long_name}

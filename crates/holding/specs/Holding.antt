@@ -4,11 +4,11 @@ use Rattle.std.proofs.Math.Option.{Option}
 use Rattle.paper_expressions.specs.Values.{Value}
 use Rattle.paper_guideline.specs.Structure.{TopLevel}
 use Rattle.paper_rows.specs.Table.{data_item, ◌№◌, value, Table}
-use Rattle.paper_rows.specs.Laws.Seen.{value_f}
-use Rattle.paper_rows.specs.Laws.Lawful.{Lawful}
-use Rattle.paper_rows.specs.Laws.Sized.{Sized}
+use Rattle.paper_rows.proofs.Laws.Seen.{value_f}
+use Rattle.paper_rows.proofs.Laws.Lawful.{Lawful}
+use Rattle.paper_rows.proofs.Laws.Sized.{Sized}
 use Rattle.paper_calls.specs.Calls.{time_limit}
-use Rattle.paper_calls.specs.Laws.CallLaws.{GoodTable}
+use Rattle.paper_calls.proofs.Laws.CallLaws.{GoodTable}
 use Rattle.state.specs.Cell.{bit}
 use Rattle.state.specs.Layout.{Rows}
 use Rattle.state.specs.Items as Items

@@ -4,15 +4,15 @@ use Rattle.std.proofs.Common.{arith, sym, ap, subst, ◌∙◌, inl, inr}
 use Rattle.std.proofs.Math.Decide.{dec_lt}
 use Rattle.std.proofs.Math.Path.{fun_ext}
 use Rattle.std.proofs.Math.Option.{Option, none, some}
-use Rattle.paper_expressions.specs.Laws.Search.{no_clash}
+use Rattle.paper_expressions.proofs.Laws.Search.{no_clash}
 use Rattle.paper_expressions.specs.Values.{Value}
 use Rattle.paper_guideline.specs.Structure.{TopLevel}
 use Rattle.paper_rows.specs.Table
 use Table.{task, data_item, candidate, argument, parameter, source, warning_condition, Component, ◌№◌, Property, state, trigger_active, confirmed, cycle_count, nbr_cycles_value, start_at, in_progress_time, discarded_time, completed_time, actual_procedure, value, requested, RowValue, value_is}
-use Rattle.paper_rows.specs.Laws.Seen.{value_f}
-use Rattle.paper_rows.specs.Laws.Lists.{at_below}
-use Rattle.paper_rows.specs.Laws.Ranks.{same_property, is_same_property}
-use Rattle.paper_engine.specs.Laws.Kept.{Kept, Moving, state_moves, trigger_moves, confirmed_moves, count_moves, cycles_move, start_moves, in_progress_moves, discarded_moves, completed_moves, procedure_moves, value_moves, requested_moves, There, item_there}
+use Rattle.paper_rows.proofs.Laws.Seen.{value_f}
+use Rattle.paper_rows.proofs.Laws.Lists.{at_below}
+use Rattle.paper_rows.proofs.Laws.Ranks.{same_property, is_same_property}
+use Rattle.paper_engine.proofs.Laws.Kept.{Kept, Moving, state_moves, trigger_moves, confirmed_moves, count_moves, cycles_move, start_moves, in_progress_moves, discarded_moves, completed_moves, procedure_moves, value_moves, requested_moves, There, item_there}
 use Rattle.state.specs.Cell.{one_row}
 use Rattle.state.specs.Items.{one_value, bit_once}
 use Rattle.state.specs.Layout.{TaskColumn, state_column, trigger_column, confirmed_column, count_column, cycles_column, start_column, in_progress_column, discarded_column, completed_column, procedure_column}

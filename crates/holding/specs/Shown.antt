@@ -11,11 +11,11 @@ use Rattle.paper_guideline.specs.Structure.{TopLevel, DataItem, Task, data_items
 use Rattle.paper_guideline.specs.Refusals.{declared_items}
 use Rattle.paper_rows.specs.Table.{task, data_item, ◌№◌, Property, class, state, precondition, wait_condition, terminate_condition, procedure, cycle_count, value, RowValue, state_is, expression_is, integer_row, Table, Contains, TaskId}
 use Rattle.paper_rows.specs.Load.{Adds}
-use Rattle.paper_rows.specs.Laws.Lists.{at_below, at_indexed}
-use Rattle.paper_rows.specs.Laws.Seen.{value_f, state_f}
-use Rattle.paper_engine.specs.Laws.Kept.{Kept, Moving, view_f, view_of, view_sound, item_view, task_view, task_id, adds}
-use Rattle.paper_engine.specs.Laws.LimitLaws.{view_held}
-use Rattle.paper_engine.specs.Laws.Attached.{precondition_typed, wait_typed, terminate_typed}
+use Rattle.paper_rows.proofs.Laws.Lists.{at_below, at_indexed}
+use Rattle.paper_rows.proofs.Laws.Seen.{value_f, state_f}
+use Rattle.paper_engine.proofs.Laws.Kept.{Kept, Moving, view_f, view_of, view_sound, item_view, task_view, task_id, adds}
+use Rattle.paper_engine.proofs.Laws.LimitLaws.{view_held}
+use Rattle.paper_engine.proofs.Laws.Attached.{precondition_typed, wait_typed, terminate_typed}
 use Rattle.parts.specs.Part as Parts
 use Rattle.apply.specs.Tasks.{state_code, state_number}
 use Rattle.evaluator.specs.Columns.{Setting, shown_at, shown}

@@ -4,7 +4,7 @@ use Rattle.std.proofs.Common.{arith, sym, ap, ap₂, subst, ◌∙◌, ext_get_o
 use Rattle.std.proofs.Math.Option.{Option, none, some}
 use Rattle.paper_expressions.specs.Limits.{integer_limit, real_limit, text_limit}
 use Rattle.paper_expressions.specs.Values.{Scalar, unknown, truth, integer, real, text, Value, one, sequence}
-use Rattle.paper_expressions.specs.Laws.WithinLimits.{Small, unknown_small, truth_small, integer_small, real_small, text_small, Limited, list_limited}
+use Rattle.paper_expressions.proofs.Laws.WithinLimits.{Small, unknown_small, truth_small, integer_small, real_small, text_small, Limited, list_limited}
 use Rattle.parts.specs.Texts.{cells, handle, moved, literal_moved, handle_place, handle_extent}
 use Rattle.values.specs.Meaning.{meaning, integer_of, real_of_fn}
 use Rattle.evaluator.specs.Columns.{scalar_at, cell_at, cells_at_fn, shaped_at, shown_at, shown}

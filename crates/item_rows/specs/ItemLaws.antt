@@ -7,8 +7,8 @@ use Rattle.paper_expressions.specs.View.{Item, At}
 use Rattle.paper_guideline.specs.Structure.{TopLevel, DataItem, data_items}
 use Rattle.paper_rows.specs.Table.{data_item, ◌№◌, a_data_item, Property, class, name, type, class_is, type_is, text_row, Table}
 use Rattle.paper_rows.specs.Load.{data_item_3, data_item_4a, data_item_4b}
-use Rattle.paper_rows.specs.Laws.Lists.{below_at, at_indexed, indexed_at}
-use Rattle.paper_engine.specs.Laws.Kept.{has, fixed_class, fixed_name, fixed_type, item_view, view_f}
+use Rattle.paper_rows.proofs.Laws.Lists.{below_at, at_indexed, indexed_at}
+use Rattle.paper_engine.proofs.Laws.Kept.{has, fixed_class, fixed_name, fixed_type, item_view, view_f}
 use Rattle.parts.specs.Codes.{declared_code}
 use Rattle.parts.specs.Texts.{text_at_fn}
 use Rattle.truths.specs.Part.{part_of, part_at}

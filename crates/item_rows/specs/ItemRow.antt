@@ -2,7 +2,7 @@
 use Rattle.std.specs.Prelude.{ℕ, ◌+◌, ◌*◌, ◌<◌, ◌≡◌, refl, Bool, true, false, cond, List, eqb, get_or}
 use Rattle.std.proofs.Common.{arith, sym, ap, subst, ◌∙◌, eq-eqb, ne_eqb}
 use Rattle.std.proofs.Math.Option.{Option, none, some}
-use Rattle.paper_expressions.specs.Laws.Search.{no_clash}
+use Rattle.paper_expressions.proofs.Laws.Search.{no_clash}
 use Rattle.paper_expressions.specs.Values.{one, text}
 use Rattle.paper_expressions.specs.Values as paper
 use Rattle.paper_expressions.specs.View.{At}
@@ -10,9 +10,9 @@ use Rattle.paper_guideline.specs.Structure.{TopLevel}
 use Rattle.paper_rows.specs.Table.{data_item, ◌№◌, a_data_item, Property, properties, class, name, type, value, requested, RowValue, value_is, class_is, type_is, text_row, Table}
 use Rattle.paper_rows.specs.Load as Load
 use Load.{Adds}
-use Rattle.paper_rows.specs.Laws.Ranks.{property_rank}
-use Rattle.paper_rows.specs.Laws.Seen.{value_f, sees_value}
-use Rattle.paper_engine.specs.Laws.Kept as Kept
+use Rattle.paper_rows.proofs.Laws.Ranks.{property_rank}
+use Rattle.paper_rows.proofs.Laws.Seen.{value_f, sees_value}
+use Rattle.paper_engine.proofs.Laws.Kept as Kept
 use Kept.{Moving, adds}
 use Rattle.paper_calls.specs.Calls as Calls
 use Calls.{no_row, shows_value, shows_class, shows_type, shown_value, shown_class, shown_type, row}

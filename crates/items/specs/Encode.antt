@@ -5,11 +5,11 @@ use Rattle.std.proofs.Math.Decide.{dec_lt, ℕ_discrete}
 use Rattle.std.proofs.Math.Option.{Option, none, some}
 use Rattle.std.proofs.lemmas.List.{length-map}
 use Rattle.std.proofs.Math.ListN.{get_or-map, get_or-eq_default}
-use Rattle.paper_expressions.specs.Laws.Tests.{contra}
+use Rattle.paper_expressions.proofs.Laws.Tests.{contra}
 use Rattle.paper_expressions.specs.Limits.{real_limit}
 use Rattle.paper_expressions.specs.Values as paper
 use Rattle.paper_expressions.specs.Values.{one, sequence}
-use Rattle.paper_expressions.specs.Laws.WithinLimits.{Small, unknown_small, truth_small, integer_small, real_small, text_small, Limited}
+use Rattle.paper_expressions.proofs.Laws.WithinLimits.{Small, unknown_small, truth_small, integer_small, real_small, text_small, Limited}
 use Rattle.parts.specs.Texts.{handle, moved}
 use Rattle.state.specs.Cell.{bit}
 use Rattle.state.specs.Items as Items

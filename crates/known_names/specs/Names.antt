@@ -1,6 +1,6 @@
 -- The names that a loaded guideline has, by the rows x, the text bytes b and the plan f, and which of them a typed name finds. Definitions only.
 use Rattle.std.specs.Prelude.{ℕ, ◌+◌, Bool, true, cond, ◌&&◌, List, [], eqb, get_or}
-use Rattle.paper_expressions.specs.Laws.Search.{sameb, alikeb}
+use Rattle.paper_expressions.proofs.Laws.Search.{sameb, alikeb}
 use Rattle.parts.specs.Texts.{text_at_fn}
 use Rattle.row_tests.specs.Table.{cell_of}
 use Rattle.known_names.specs.declared.lookup.Sort.{Sort}

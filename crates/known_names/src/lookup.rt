@@ -1,6 +1,6 @@
 // The names that the plan has, and the one that is meant.
 ghost use Rattle.std.specs.Prelude.{◌≡◌};
-ghost use Rattle.paper_expressions.specs.Laws.Search.{sameb, alikeb};
+ghost use Rattle.paper_expressions.proofs.Laws.Search.{sameb, alikeb};
 ghost use Rattle.parts.specs.Texts.{text_at_fn};
 ghost use Rattle.explain_rows.specs.Firsts.{First};
 ghost use Rattle.known_names.specs.Names.{count_of, handle_of, there_of, named_at, trigger_at};

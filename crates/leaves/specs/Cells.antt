@@ -1,8 +1,8 @@
 -- Laws on the bytes of a part of a text: one by one, without their quotes, and against a table. By induction on how many there are.
 use Rattle.std.specs.Prelude.{ℕ, zero, suc, ◌+◌, ◌*◌, ◌-◌, ◌≤◌, ◌<◌, ◌≡◌, refl, Bool, true, false, ◌||◌, List, [], ◌∷◌, eqb, get_or, length}
 use Rattle.std.proofs.Common.{sym, ap, ◌∙◌, ⊎_elim, not-suc-le-zero, add-one, arith, drop-cons, ne_eqb}
-use Rattle.paper_expressions.specs.Laws.Tests.{two}
-use Rattle.paper_expressions.specs.Laws.Search.{sameb, same_reflects, reflects_true, true_reflects}
+use Rattle.paper_expressions.proofs.Laws.Tests.{two}
+use Rattle.paper_expressions.proofs.Laws.Search.{sameb, same_reflects, reflects_true, true_reflects}
 use Rattle.paper_tokens.specs.Lexical.{part, inner}
 use Rattle.parts.specs.Texts.{cells}
 use Rattle.words.specs.Entries.{Same}

@@ -1,10 +1,10 @@
 -- Tokens that are an expression by themselves, and what the part of such a token says. With the laws that tie them to what is read.
 use Rattle.std.specs.Prelude.{ℕ, ◌+◌, ◌*◌, ◌≤◌, ◌<◌, ◌≡◌, true, false, List, leb, nat_abs, length}
 use Rattle.std.proofs.Common.{sym, ap, subst, ◌∙◌, ⊎_elim, arith, leb-true, leb-false}
-use Rattle.paper_expressions.specs.Laws.Tests.{two}
+use Rattle.paper_expressions.proofs.Laws.Tests.{two}
 use Rattle.paper_expressions.specs.Limits as Values
 use Values.{integer_limit, real_limit}
-use Rattle.paper_expressions.specs.Laws.Functors.{functor_f}
+use Rattle.paper_expressions.proofs.Laws.Functors.{functor_f}
 use Rattle.paper_expressions.specs.Expressions.{Expr, Atom, IntegerLit, FloatLit, StringLit}
 use Rattle.paper_tokens.specs.Lexical.{Token, atom, integer, float, double_quoted_string, part, inner}
 use Rattle.paper_tokens.specs.Terminals.{Terminal, name}
@@ -12,7 +12,7 @@ use Rattle.paper_tokens.specs.Terminals
 use Rattle.paper_tokens.specs.Literals.{whole, thousandths}
 use Rattle.paper_guideline.specs.Limits.{guideline_limit}
 use Rattle.paper_guideline.specs.Refusals.{TokenBreach, long_name, long_text, large_integer, large_real}
-use Rattle.paper_tokens.specs.Laws.TerminalLaws.{terminal_is, one_terminal, atom-kind}
+use Rattle.paper_tokens.proofs.Laws.TerminalLaws.{terminal_is, one_terminal, atom-kind}
 use Rattle.parts.specs.Codes.{code, kind}
 use Rattle.parts.specs.Texts.{cells, handle, text_at_fn, text_of, literal}
 use Rattle.parts.specs.Part.{Load, OpLoad}

@@ -2,11 +2,11 @@
 -- Law: the first row that is the same gives the number of what the name means. By one computed test that the rows are section 11's.
 use Rattle.std.specs.Prelude.{ℕ, zero, suc, ◌+◌, ◌*◌, ◌≤◌, ◌<◌, ◌≡◌, refl, Bool, true, false, cond, ◌&&◌, List, [], ◌∷◌, ltb, leb, get_or}
 use Rattle.std.proofs.Common.{sym, ap, ◌∙◌, ⊎_elim, arith, leb→le, ltb-true, lt-ltb, le-ltb}
-use Rattle.paper_expressions.specs.Laws.Tests.{two, and_l, and_r}
+use Rattle.paper_expressions.proofs.Laws.Tests.{two, and_l, and_r}
 use Rattle.paper_expressions.specs.Bytes.{bytes}
 use Rattle.paper_expressions.specs.Operators.{Op, arithmetic, divide, compare, and, or, includes, oneof, if, negate, isknown, not, count, sum, extreme, nth, is-in, no_such, Name, ◌means◌, functors}
-use Rattle.paper_expressions.specs.Laws.Functors.{meant_f, functor_f}
-use Rattle.paper_expressions.specs.Laws.Search.{sameb}
+use Rattle.paper_expressions.proofs.Laws.Functors.{meant_f, functor_f}
+use Rattle.paper_expressions.proofs.Laws.Search.{sameb}
 use Rattle.parts.specs.Codes.{code}
 use Rattle.parts.specs.Part.{OpLoad}
 use Rattle.parts.specs.Texts.{text_at_fn}

@@ -2,7 +2,7 @@
 -- Law: within the limits they are the numbers of 9.1. By induction on the bytes.
 use Rattle.std.specs.Prelude.{ℕ, zero, suc, ◌+◌, ◌*◌, ◌-◌, ◌≤◌, ◌≡◌, refl, Bool, true, false, cond, List, [], ◌∷◌, eqb, leb, pos, nat_abs, neg_ℤ}
 use Rattle.std.proofs.Common.{sym, ap, subst, ◌∙◌, ⊎_elim, arith, ne_eqb, le-leb, le-ltb}
-use Rattle.paper_expressions.specs.Laws.Tests.{two}
+use Rattle.paper_expressions.proofs.Laws.Tests.{two}
 use Rattle.paper_expressions.specs.Limits.{integer_limit, real_limit}
 use Rattle.paper_tokens.specs.Literals.{whole, thousandths, behind_point}
 use Rattle.parts.specs.Texts.{literal, moved, literal_moved}

@@ -1,7 +1,7 @@
 -- The place of a text among the names of a table, each of which has so many bytes there, and a length. With the laws, name by name.
 use Rattle.std.specs.Prelude.{ℕ, zero, suc, ◌+◌, ◌*◌, ◌≤◌, ◌<◌, ◌≡◌, refl, true, false, cond, List, length, get_or}
 use Rattle.std.proofs.Common.{not-suc-le-zero, add-one}
-use Rattle.paper_expressions.specs.Laws.Search.{sameb}
+use Rattle.paper_expressions.proofs.Laws.Search.{sameb}
 use Rattle.parts.specs.Texts.{cells}
 
 abbrev pub entry : List ℕ → List ℕ → ℕ → ℕ → List ℕ

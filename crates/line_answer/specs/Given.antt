@@ -5,8 +5,8 @@ use Rattle.paper_expressions.specs.Values as paper
 use Rattle.paper_expressions.specs.Types.{Ty}
 use Rattle.paper_expressions.specs.View.{Apart, Sound}
 use Rattle.paper_expressions.specs.Expressions.{Expr, Exprs, ε, ◌▸◌, HasType}
-use Rattle.paper_expressions.specs.Laws.Parentheses.{bare, bares, type_to_bare}
-use Rattle.paper_expressions.specs.Laws.WithinLimits as Within
+use Rattle.paper_expressions.proofs.Laws.Parentheses.{bare, bares, type_to_bare}
+use Rattle.paper_expressions.proofs.Laws.WithinLimits as Within
 use Within.{Limited, Modest, AllModest, atom_modest, integer_modest, float_modest, string_modest, paren_modest, listing_modest, apply_modest, none_modest, more_modest, Held, limited}
 use Rattle.paper_guideline.specs.Line.{no_items}
 use Rattle.parts.specs.Part.{Table, Ends}

@@ -4,16 +4,16 @@ use Rattle.std.proofs.Common.{arith, ap, ⊎_elim}
 use Rattle.paper_expressions.specs.Limits.{list_limit}
 use Rattle.paper_expressions.specs.View.{At, at_first, at_later}
 use Rattle.paper_expressions.specs.Expressions.{Expr, Exprs, ε, ◌▸◌}
-use Rattle.paper_expressions.specs.Laws.WithinLimits as Within
+use Rattle.paper_expressions.proofs.Laws.WithinLimits as Within
 use Within.{Modest, AllModest, atom_modest, integer_modest, float_modest, string_modest, paren_modest, listing_modest, apply_modest, none_modest, more_modest}
 use Rattle.paper_tokens.specs.Lexical.{Token}
 use Rattle.paper_guideline.specs.Tree
 use Tree.{Where, Tree, infix_operator, looser, unary_minus, an_atom, an_integer, a_float, a_string, parentheses, a_list, a_call, empty, nonempty, last, then_more}
-use Rattle.paper_guideline.specs.Laws.TreeLaws.{Each, all, ◌&◌}
+use Rattle.paper_guideline.proofs.Laws.TreeLaws.{Each, all, ◌&◌}
 use Rattle.paper_guideline.specs.Limits.{larger, count, longest_list, longest_lists}
 use Rattle.paper_guideline.specs.Refusals.{TokenBreach, long_name, long_text, large_integer, large_real}
 use Rattle.expression_steps.specs.Larger.{first_larger, second_larger}
-use Rattle.paper_guideline.specs.Laws.RefusalLaws.{le_or_gt}
+use Rattle.paper_guideline.proofs.Laws.RefusalLaws.{le_or_gt}
 
 -- ---- the larger of two numbers
 

@@ -12,9 +12,9 @@ use Rattle.paper_expressions.specs.Evaluation.{Evaluates}
 use Rattle.paper_grammar.specs.Nonterminals.{⟨expression⟩}
 use Rattle.paper_grammar.specs.Sentence.{SentenceOf}
 use Rattle.paper_tokens.specs.Lexical.{Token, Tokens}
-use Rattle.paper_tokens.specs.Laws.LexicalLaws as Lexical
+use Rattle.paper_tokens.proofs.Laws.LexicalLaws as Lexical
 use Rattle.paper_tokens.specs.Terminals.{Terminals}
-use Rattle.paper_tokens.specs.Laws.TerminalLaws as Terms
+use Rattle.paper_tokens.proofs.Laws.TerminalLaws as Terms
 use Rattle.paper_guideline.specs.Tree.{anywhere, Tree}
 use Rattle.paper_guideline.specs.LeftOut.{LeftOut}
 use Rattle.paper_guideline.specs.Limits.{depth_limit, part_limit, token_limit, parts, depth, longest_list}
@@ -24,9 +24,9 @@ use Refusals.{high_byte, long, no_rule, many_tokens, many_open, bad_token, bad_e
 use Rattle.paper_guideline.specs.Line
 use Line.{no_items, LineTree, LineBreach, refused, gives, LineAnswers, line_refused, line_gives}
 use Line.{line_high_byte, line_long, line_no_rule, line_many_tokens, line_many_open, line_no_expression, line_left_out, line_token, line_deep, line_long_list, line_many_parts, line_no_type}
-use Rattle.paper_guideline.specs.Laws.LineLaws.{one_line_tree}
+use Rattle.paper_guideline.proofs.Laws.LineLaws.{one_line_tree}
 use Rattle.line_answer.specs.Steps.{Before}
-use Rattle.paper_guideline.specs.Laws.RefusalLaws.{by_turn, by_its_turn, le_or_gt}
+use Rattle.paper_guideline.proofs.Laws.RefusalLaws.{by_turn, by_its_turn, le_or_gt}
 
 -- ---- the first three stages, as load tests them
 

@@ -2,8 +2,8 @@
 use Rattle.std.specs.Prelude.{ℕ, ◌≤◌, ◌<◌, ◌≡◌, List, [], length}
 use Rattle.paper_expressions.specs.Types.{Ty}
 use Rattle.paper_expressions.specs.Expressions.{Expr, HasType}
-use Rattle.paper_expressions.specs.Laws.Parentheses.{bare}
-use Rattle.paper_expressions.specs.Laws.WithinLimits.{Modest}
+use Rattle.paper_expressions.proofs.Laws.Parentheses.{bare}
+use Rattle.paper_expressions.proofs.Laws.WithinLimits.{Modest}
 use Rattle.paper_guideline.specs.Limits.{depth_limit, part_limit}
 use Rattle.paper_tokens.specs.Lexical.{Token, Tokens}
 use Rattle.paper_tokens.specs.Terminals.{Terminals}

@@ -4,7 +4,7 @@ use Rattle.std.proofs.Common.{arith, ⊎_elim}
 use Rattle.paper_guideline.specs.Tree.{anywhere}
 use Rattle.paper_guideline.specs.Limits.{guideline_limit, part_limit}
 use Rattle.paper_guideline.specs.Refusals.{text_stage}
-use Rattle.paper_guideline.specs.Laws.RefusalLaws.{le_or_gt}
+use Rattle.paper_guideline.proofs.Laws.RefusalLaws.{le_or_gt}
 use Rattle.paper_guideline.specs.Line.{line_long}
 use Rattle.parts.specs.Part.{table}
 use Rattle.leaves.specs.Source.{source}

@@ -5,11 +5,11 @@ use Rattle.paper_expressions.specs.Limits.{list_limit}
 use Rattle.paper_expressions.specs.View as View
 use Rattle.paper_grammar.specs.Nonterminals.{⟨expression⟩}
 use Rattle.paper_grammar.specs.Sentence.{SentenceOf}
-use Rattle.paper_guideline.specs.Laws.CompleteLaws.{some_expression}
+use Rattle.paper_guideline.proofs.Laws.CompleteLaws.{some_expression}
 use Rattle.paper_tokens.specs.Lexical.{Token}
 use Rattle.paper_guideline.specs.LeftOut.{LeftOut}
 use Rattle.paper_guideline.specs.Tree.{anywhere}
-use Rattle.paper_guideline.specs.Laws.TreeLaws as Tree
+use Rattle.paper_guideline.proofs.Laws.TreeLaws as Tree
 use Rattle.paper_guideline.specs.Limits.{token_limit, part_limit, depth_limit, parts, depth, longest_list}
 use Rattle.paper_guideline.specs.Refusals.{TokenBreach}
 use Rattle.paper_guideline.specs.Line.{refused, LineAnswers}

@@ -1,7 +1,7 @@
 -- The last steps: a type or none, and the value; each ends in an answer that is written.
 use Rattle.std.specs.Prelude.{ℕ, ◌≡◌, refl, List, length}
 use Rattle.std.proofs.Common.{eq-eqb}
-use Rattle.paper_expressions.specs.Laws.Search.{no_clash}
+use Rattle.paper_expressions.proofs.Laws.Search.{no_clash}
 use Rattle.paper_expressions.specs.Types.{Ty}
 use Rattle.paper_expressions.specs.Expressions.{HasType}
 use Rattle.paper_guideline.specs.Limits.{depth_limit}

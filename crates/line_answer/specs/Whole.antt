@@ -3,9 +3,9 @@ use Rattle.std.specs.Prelude.{ℕ, ◌≤◌, ◌<◌, ◌≡◌, refl, List, le
 use Rattle.std.proofs.Common.{arith, sym, ap, subst, ◌∙◌, ⊎_elim}
 use Rattle.std.proofs.lemmas.List.{length-replicate}
 use Rattle.paper_guideline.specs.Limits.{token_limit}
-use Rattle.paper_guideline.specs.Laws.RefusalLaws.{le_or_gt}
+use Rattle.paper_guideline.proofs.Laws.RefusalLaws.{le_or_gt}
 use Rattle.paper_guideline.specs.Line.{LineAnswer, refused, LineAnswers, answer_written}
-use Rattle.paper_guideline.specs.Laws.LineLaws.{one_line_answer}
+use Rattle.paper_guideline.proofs.Laws.LineLaws.{one_line_answer}
 use Rattle.tokens.specs.declared.Read.{Read}
 use Rattle.tokens.specs.declared.Read.TheVariants.{Tokens, Refused, Short}
 use Rattle.tokens.specs.Reply.{filled, blank, Reads}

@@ -1,7 +1,7 @@
 -- An answer that is written to blank cells is the whole of what they hold: its bytes, and zeros behind them.
 use Rattle.std.specs.Prelude.{ℕ, zero, suc, ◌+◌, ◌-◌, ◌≤◌, ◌≡◌, refl, List, ◌++◌, length, drop}
 use Rattle.std.proofs.Common.{arith, ap, ◌∙◌}
-use Rattle.paper_expressions.specs.Laws.WithinLimits.{Limited}
+use Rattle.paper_expressions.proofs.Laws.WithinLimits.{Limited}
 use Rattle.paper_expressions.specs.Types.{Ty}
 use Rattle.paper_expressions.specs.Values.{Value}
 use Rattle.paper_guideline.specs.Line.{LineAnswer, refused, gives, LineAnswers, answer_written}

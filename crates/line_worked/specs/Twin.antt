@@ -3,7 +3,7 @@ use Rattle.std.specs.Prelude.{ℕ, suc, ◌+◌, ◌≤◌, ◌<◌, ◌≡◌, 
 use Prim.Native.String.{String}
 use Rattle.std.proofs.Common.{arith, sym, ap, subst, ◌∙◌, ⊎_elim, leb-true, leb-false, eq-eqb}
 use Rattle.std.proofs.Math.Option.{Option, none, some}
-use Rattle.paper_expressions.specs.Laws.Tests.{contra, two, and_l, and_r, every, every_at}
+use Rattle.paper_expressions.proofs.Laws.Tests.{contra, two, and_l, and_r, every, every_at}
 use Rattle.paper_expressions.specs.Bytes.{bytes}
 use Rattle.paper_expressions.specs.Limits.{integer_limit, real_limit, list_limit}
 use Rattle.paper_expressions.specs.Limits as Values
@@ -11,27 +11,27 @@ use Rattle.paper_expressions.specs.Types.{Ty}
 use Rattle.paper_expressions.specs.Clauses.{Clause}
 use Rattle.paper_expressions.specs.View.{At, at_first, at_later}
 use Rattle.paper_expressions.specs.Expressions.{Expr, HasType}
-use Rattle.paper_expressions.specs.Laws.Search.{no_clash}
-use Rattle.paper_expressions.specs.Laws.Typing.{type_f, type_has, type_only}
-use Rattle.paper_expressions.specs.Laws.Only.{Answer}
-use Rattle.paper_expressions.specs.Laws.Only as Only
-use Rattle.paper_expressions.specs.Laws.Promise.{eval_f, evaluates_if}
-use Rattle.paper_tokens.specs.Laws.FormsLaws.{match_f, match_law}
-use Rattle.paper_grammar.specs.Laws.Ll.{Out, accept, refuse, run, N}
-use Rattle.paper_grammar.specs.Laws.Form.{G, ‹Expr›}
-use Rattle.paper_grammar.specs.Laws.Same.{at_expression, accepts_sentence, sentence_accepted}
+use Rattle.paper_expressions.proofs.Laws.Search.{no_clash}
+use Rattle.paper_expressions.proofs.Laws.Typing.{type_f, type_has, type_only}
+use Rattle.paper_expressions.proofs.Laws.Only.{Answer}
+use Rattle.paper_expressions.proofs.Laws.Only as Only
+use Rattle.paper_expressions.proofs.Laws.Promise.{eval_f, evaluates_if}
+use Rattle.paper_tokens.proofs.Laws.FormsLaws.{match_f, match_law}
+use Rattle.paper_grammar.proofs.Laws.Ll.{Out, accept, refuse, run, N}
+use Rattle.paper_grammar.proofs.Laws.Form.{G, ‹Expr›}
+use Rattle.paper_grammar.proofs.Laws.Same.{at_expression, accepts_sentence, sentence_accepted}
 use Rattle.paper_tokens.specs.Tokens.{“open”, “[”}
 use Rattle.paper_tokens.specs.Lexical
 use Lexical.{Rule, reserved_word, atom, integer, float, double_quoted_string, white_space, comment, plain_float, inner, Longest, Token, Tokens, at_end, skip, take_token, Comes, starts, goes_on, Stuck}
-use Rattle.paper_tokens.specs.Laws.LexicalLaws.{one_length, one_list}
-use Rattle.paper_tokens.specs.Laws.LexicalTwin.{same, same_self, Lexed, tokens, stuck, lex_f, Is, lexed}
+use Rattle.paper_tokens.proofs.Laws.LexicalLaws.{one_length, one_list}
+use Rattle.paper_tokens.proofs.Laws.LexicalTwin.{same, same_self, Lexed, tokens, stuck, lex_f, Is, lexed}
 use Rattle.paper_tokens.specs.Literals.{whole, thousandths, behind_point}
 use Rattle.paper_tokens.specs.Terminals.{name}
-use Rattle.paper_tokens.specs.Laws.TerminalLaws.{terminal_f, terminal_is, have_terminals}
+use Rattle.paper_tokens.proofs.Laws.TerminalLaws.{terminal_f, terminal_is, have_terminals}
 use Rattle.paper_guideline.specs.LeftOut.{left_out_words, left_out_functors, LeftOut, left_out_word, left_out_functor, left_out_exponent, further_on}
-use Rattle.paper_guideline.specs.Laws.CompleteLaws.{some_expression}
+use Rattle.paper_guideline.proofs.Laws.CompleteLaws.{some_expression}
 use Rattle.paper_guideline.specs.Tree.{anywhere, Tree}
-use Rattle.paper_guideline.specs.Laws.TreeLaws.{tree_f, tree_read}
+use Rattle.paper_guideline.proofs.Laws.TreeLaws.{tree_f, tree_read}
 use Rattle.paper_guideline.specs.Limits.{guideline_limit, token_limit, bracket_limit, decimal_limit, part_limit, depth_limit, parts, depth, longest_list}
 use Rattle.paper_guideline.specs.Refusals
 use Refusals.{text_stage, lexical_stage, count_stage, Opening, opens_round, opens_square, TooManyOpen, one_too_many, one_more_open, one_fewer_open, as_many_open, TokenBreach, long_name, long_text, large_integer, large_real, long_fraction}

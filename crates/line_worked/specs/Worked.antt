@@ -8,16 +8,16 @@ use Rattle.paper_expressions.specs.Values.{Value, unknown, truth, integer, real,
 use Rattle.paper_expressions.specs.Types.{Text, Integer, Real, TruthValue}
 use Rattle.paper_expressions.specs.Types.{Ty}
 use Rattle.paper_expressions.specs.Expressions.{Expr}
-use Rattle.paper_expressions.specs.Laws.Sheet.{Holds, row, sheet, worked_sheet}
-use Rattle.paper_expressions.specs.Laws.Sheet as Sheet
+use Rattle.paper_expressions.proofs.Laws.Sheet.{Holds, row, sheet, worked_sheet}
+use Rattle.paper_expressions.proofs.Laws.Sheet as Sheet
 use Rattle.paper_tokens.specs.Kinds.{kind_of}
-use Rattle.paper_tokens.specs.Laws.FormsLaws.{nul, deriv}
+use Rattle.paper_tokens.proofs.Laws.FormsLaws.{nul, deriv}
 use Rattle.paper_tokens.specs.Words.{reserved, yes_or_no, data_types}
-use Rattle.paper_grammar.specs.Laws.Form as Form
+use Rattle.paper_grammar.proofs.Laws.Form as Form
 use Rattle.paper_tokens.specs.Lexical.{bare_atom, quoted_atom, integer_form, plain_float, exponent, float_form, string_form, white_form, comment_form}
-use Rattle.paper_tokens.specs.Laws.TerminalLaws.{terminal_f}
+use Rattle.paper_tokens.proofs.Laws.TerminalLaws.{terminal_f}
 use Rattle.paper_guideline.specs.LeftOut.{left_out_words, left_out_functors}
-use Rattle.paper_guideline.specs.Laws.TreeLaws.{infix_f, tree_f}
+use Rattle.paper_guideline.proofs.Laws.TreeLaws.{infix_f, tree_f}
 use Rattle.paper_guideline.specs.Line.{LineTree, LineAnswer, refused, gives, LineAnswers}
 use Rattle.line_worked.specs.Twin.{line_f, computed, tree_of, tree_computed}
 

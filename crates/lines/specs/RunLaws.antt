@@ -4,9 +4,9 @@ use Rattle.std.proofs.Common.{arith, sym, ap, subst, ◌∙◌, ⊎_elim, append
 use Rattle.std.proofs.Math.Seq.{drop-length}
 use Rattle.paper_guideline.specs.Limits.{guideline_limit}
 use Rattle.paper_guideline.specs.Refusals.{text_stage, number}
-use Rattle.paper_guideline.specs.Laws.RefusalLaws.{le_or_gt}
+use Rattle.paper_guideline.proofs.Laws.RefusalLaws.{le_or_gt}
 use Rattle.paper_guideline.specs.Line.{line_long, LineAnswer, refused, LineAnswers, line_refused, digits_of, answer_written, lines_from, Writes, no_more_lines, next_line, Output, output}
-use Rattle.paper_guideline.specs.Laws.LineLaws.{one_line_answer}
+use Rattle.paper_guideline.proofs.Laws.LineLaws.{one_line_answer}
 use Rattle.lines.specs.Kept.{kept_limit, Begun, before_newline, has_newline, Takes}
 use Rattle.lines.specs.Run.{header, line_written, joined, Run, line_ends, line_goes_on, next_chunk, last_line, no_last_line}
 use Rattle.lines.specs.declared.Taken.{Taken}

@@ -2,15 +2,15 @@
 use Rattle.std.specs.Prelude.{ℕ, ◌≤◌, ◌<◌, ◌≡◌, refl, Bool, true, false, ◌||◌, List, map, length, get_or, ltb}
 use Rattle.std.proofs.Common.{arith, sym, ap, subst, ◌∙◌, ltb-false, lt-ltb, le-ltb}
 use Rattle.std.proofs.lemmas.List.{length-map}
-use Rattle.paper_expressions.specs.Laws.Tests.{or_r}
-use Rattle.paper_expressions.specs.Laws.Search.{no_clash}
+use Rattle.paper_expressions.proofs.Laws.Tests.{or_r}
+use Rattle.paper_expressions.proofs.Laws.Search.{no_clash}
 use Rattle.paper_guideline.specs.Structure.{TopLevel, Task, tasks}
 use Rattle.paper_guideline.specs.Refusals as Refusals
-use Rattle.paper_guideline.specs.Laws.RefusalLaws.{one_answer}
-use Rattle.paper_guideline.specs.Laws.StageTwin.{one_read}
+use Rattle.paper_guideline.proofs.Laws.RefusalLaws.{one_answer}
+use Rattle.paper_guideline.proofs.Laws.StageTwin.{one_read}
 use Rattle.paper_rows.specs.Bare.{bare_guideline, bare_task}
-use Rattle.paper_rows.specs.Laws.LoadLaws.{lawful}
-use Rattle.paper_rows.specs.Laws.BareLaws.{bare_tasks, bare_lawful}
+use Rattle.paper_rows.proofs.Laws.LoadLaws.{lawful}
+use Rattle.paper_rows.proofs.Laws.BareLaws.{bare_tasks, bare_lawful}
 use Rattle.parts.specs.Part.{Table, table}
 use Rattle.guideline_rows.specs.Rows.{flatten}
 use Rattle.guideline_rows.specs.Encoded.{Encoded}

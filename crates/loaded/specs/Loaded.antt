@@ -3,24 +3,24 @@ use Rattle.std.specs.Prelude.{ℕ, ◌+◌, ◌*◌, ◌<◌, ◌≤◌, ◌≡�
 use Rattle.std.proofs.Common.{arith, sym, ap, subst, ◌∙◌, inl, inr, ⊎_elim}
 use Rattle.std.proofs.Math.Option.{Option, none}
 use Rattle.std.proofs.Math.ListN.{get_or-eq_default}
-use Rattle.paper_expressions.specs.Laws.Tests.{two, or_r}
+use Rattle.paper_expressions.proofs.Laws.Tests.{two, or_r}
 use Rattle.paper_expressions.specs.Values.{Value}
 use Rattle.paper_guideline.specs.Structure.{TopLevel, tasks}
 use Rattle.paper_guideline.specs.Refusals as Refusals
 use Rattle.paper_rows.specs.Table.{data_item, ◌№◌, value, Table}
 use Rattle.paper_rows.specs.Load.{Initial}
 use Rattle.paper_rows.specs.Bare.{bare_guideline}
-use Rattle.paper_rows.specs.Laws.Seen.{value_f}
-use Rattle.paper_rows.specs.Laws.RowLists.{look_f}
-use Rattle.paper_rows.specs.Laws.InitialLaws.{load_f, initial}
-use Rattle.paper_rows.specs.Laws.LoadLaws.{lawful}
-use Rattle.paper_rows.specs.Laws.BareLaws.{bare_lawful}
-use Rattle.paper_rows.specs.Laws.Lawful.{Lawful}
-use Rattle.paper_rows.specs.Laws.Sized.{Sized, bare_sized}
-use Rattle.paper_rows.specs.Laws.FineLaws.{sized}
+use Rattle.paper_rows.proofs.Laws.Seen.{value_f}
+use Rattle.paper_rows.proofs.Laws.RowLists.{look_f}
+use Rattle.paper_rows.proofs.Laws.InitialLaws.{load_f, initial}
+use Rattle.paper_rows.proofs.Laws.LoadLaws.{lawful}
+use Rattle.paper_rows.proofs.Laws.BareLaws.{bare_lawful}
+use Rattle.paper_rows.proofs.Laws.Lawful.{Lawful}
+use Rattle.paper_rows.proofs.Laws.Sized.{Sized, bare_sized}
+use Rattle.paper_rows.proofs.Laws.FineLaws.{sized}
 use Rattle.paper_calls.specs.Calls as Calls
 use Calls.{State, Guideline, empty, loaded, load, Calls, load_done, load_refused}
-use Rattle.paper_calls.specs.Laws.CallLaws.{GoodTable, Good, good_loaded, load_good}
+use Rattle.paper_calls.proofs.Laws.CallLaws.{GoodTable, Good, good_loaded, load_good}
 use Rattle.parts.specs.Part as Parts
 use Rattle.guideline_rows.specs.Rows.{flatten}
 use Rattle.guideline_rows.specs.Encoded.{text_of}

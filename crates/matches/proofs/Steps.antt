@@ -12,7 +12,7 @@ use borrow.Author.Count.{below_more}
 use lib.Dec.{ltb, eqb, ltb→lt, eqb→eq}
 use lib.ListN.{length, take, drop, get_or, set, length-drop}
 use lib.Seq.{take-suc, get_or-drop, get_or-set_same, get_or-set_other}
-use Rattle.paper_expressions.specs.Laws.Tests.{contra, two}
+use Rattle.paper_expressions.proofs.Laws.Tests.{contra, two}
 use Rattle.paper_tokens.specs.Lexical.{part}
 use Rattle.matches.specs.Kinds.{fine_of}
 use Rattle.matches.specs.KindsLaws.{fine_small}

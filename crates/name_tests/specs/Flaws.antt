@@ -3,8 +3,8 @@ use Rattle.std.specs.Prelude.{ℕ, ◌-◌, ◌≤◌, ◌<◌, ◌≡◌, refl,
 use Rattle.std.proofs.Common.{sym, ap, subst, ◌∙◌, inl, inr, ⊎_elim, arith, eq-eqb, ne_eqb, eqb-true}
 use Rattle.std.proofs.Math.Decide.{dec_lt}
 use Rattle.paper_expressions.specs.Bytes.{folded, Alike}
-use Rattle.paper_expressions.specs.Laws.Tests.{contra, two, and_l, and_r, both}
-use Rattle.paper_expressions.specs.Laws.Search.{Reflects, of_yes, of_no, reflects_iff, reflects_not, true_reflects, false_reflects, reflects_true, same_reflects, sameb}
+use Rattle.paper_expressions.proofs.Laws.Tests.{contra, two, and_l, and_r, both}
+use Rattle.paper_expressions.proofs.Laws.Search.{Reflects, of_yes, of_no, reflects_iff, reflects_not, true_reflects, false_reflects, reflects_true, same_reflects, sameb}
 use Rattle.paper_tokens.specs.Tokens
 use Tokens.{“data”, “=”, “caption”, “description”, “precondition”, “wait-condition”, “postcondition”, “terminate”, “trigger”, “component”, “source”, “schedule-constraint”, “terminal”, “mandatory”}
 use Rattle.parts.specs.Texts.{text_at_fn}

@@ -1,6 +1,6 @@
 // The rows of the tasks, and of the data items, as lists of their numbers; and searches of their names.
 ghost use Rattle.std.specs.Prelude.{◌≡◌, ◌+◌, ◌≤◌, ◌<◌, length};
-ghost use Rattle.paper_expressions.specs.Laws.Search.{alikeb};
+ghost use Rattle.paper_expressions.proofs.Laws.Search.{alikeb};
 ghost use Rattle.parts.specs.Texts.{text_at_fn};
 ghost use Rattle.row_tests.specs.Searched.{Some};
 ghost use Rattle.name_tests.specs.Lists.{chosen, matched, listed_at, Puts, Gathers};

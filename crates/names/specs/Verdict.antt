@@ -3,7 +3,7 @@ use Rattle.std.specs.Prelude.{ℕ, zero, suc, ◌+◌, ◌-◌, ◌≤◌, ◌<�
 use Rattle.std.proofs.Common.{sym, ap, subst, ◌∙◌, inl, inr, ⊎_elim, arith, eqb-true, eq-eqb}
 use Rattle.std.proofs.Math.Decide.{dec_lt}
 use Rattle.paper_expressions.specs.View.{At}
-use Rattle.paper_expressions.specs.Laws.Search.{Reflects, true_reflects, false_reflects}
+use Rattle.paper_expressions.proofs.Laws.Search.{Reflects, true_reflects, false_reflects}
 use Rattle.paper_tokens.specs.Tokens.{“data”}
 use Rattle.parts.specs.ItemLaws.{index_of}
 use Rattle.paper_guideline.specs.Structure.{Name, TopLevel, Task, DataItem, tasks, data_items}

@@ -2,8 +2,8 @@
 use Rattle.std.specs.Prelude.{ℕ, zero, suc, ◌+◌, ◌-◌, ◌≤◌, ◌<◌, ◌≡◌, refl, Bool, true, false, ◌⊎◌, List, [], ◌∷◌, length, get_or, set}
 use Rattle.std.proofs.Common.{sym, ap, subst, ◌∙◌, inl, inr, ⊎_elim, arith, length-set, get_or-set_same, get_or-set_other}
 use Rattle.std.proofs.Math.Decide.{dec_lt}
-use Rattle.paper_expressions.specs.Laws.Tests.{contra}
-use Rattle.paper_expressions.specs.Laws.Search.{Reflects, of_yes, of_no, reflects_iff, true_reflects, false_reflects}
+use Rattle.paper_expressions.proofs.Laws.Tests.{contra}
+use Rattle.paper_expressions.proofs.Laws.Search.{Reflects, of_yes, of_no, reflects_iff, true_reflects, false_reflects}
 use Rattle.paper_tokens.specs.Tokens.{“component”}
 use Rattle.row_names.specs.Sheet
 use Sheet.{Sheet, task_kind, head_kind, Task, Of, Same, Holds, Reached, the_root, by_component}

@@ -10,7 +10,7 @@ use lib.Dec.{T, ltb, leb, eqb}
 use borrow.Author.Tests.{ltb-true, ltb-false, le-leb, lt-leb, ne_eqb, eqb-false}
 use mir.Syntax.{w32, w64}
 use mir.Val.{SFits, of_z}
-use Rattle.paper_expressions.specs.Laws.Only.{zero_z}
+use Rattle.paper_expressions.proofs.Laws.Only.{zero_z}
 
 no_way : {A : Type 0} → false ≡ true → A
 no_way e = absurd (subst T (sym e) tt)

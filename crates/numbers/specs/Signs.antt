@@ -1,6 +1,6 @@
 -- The code's answer of a comparison for each that comp has, and for none. Definitions only.
 use Rattle.paper_expressions.specs.Operators as paper
-use Rattle.paper_expressions.specs.Laws.Compare.{Verdict, got, stuck}
+use Rattle.paper_expressions.proofs.Laws.Compare.{Verdict, got, stuck}
 use Rattle.numbers.specs.declared.sign.Sign.{Sign}
 use Rattle.numbers.specs.declared.sign.Sign.TheVariants.{Greater, Less, Equal, Unknown, Unfit}
 

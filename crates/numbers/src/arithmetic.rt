@@ -1,8 +1,8 @@
 // Sums, products and quotients of numbers, and their order.
 ghost use Rattle.std.specs.Prelude.{◌≡◌, false, ◌≤◌, ◌^◌, pos, nat_abs, ◌+ℤ◌, ◌-ℤ◌, ◌*ℤ◌};
 ghost use Rattle.paper_expressions.specs.Operators as paper;
-ghost use Rattle.paper_expressions.specs.Laws.Compare.{order_z};
-ghost use Rattle.paper_expressions.specs.Laws.Only.{zero_z};
+ghost use Rattle.paper_expressions.proofs.Laws.Compare.{order_z};
+ghost use Rattle.paper_expressions.proofs.Laws.Only.{zero_z};
 ghost use Rattle.numbers.specs.Signs.{signed};
 
 use crate::number::{Num, Wide, wide_of};

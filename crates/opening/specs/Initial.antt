@@ -4,12 +4,12 @@ use Rattle.std.proofs.Common.{arith, sym, ap, subst, ◌∙◌, inl, inr}
 use Rattle.std.proofs.Math.Decide.{dec_lt}
 use Rattle.std.proofs.Math.Option.{Option, none, some}
 use Rattle.paper_expressions.specs.Values.{dormant}
-use Rattle.paper_expressions.specs.Laws.Search.{no_clash}
+use Rattle.paper_expressions.proofs.Laws.Search.{no_clash}
 use Rattle.paper_guideline.specs.Structure.{TopLevel, Task, tasks}
 use Rattle.paper_rows.specs.Table.{task, data_item, Component, ◌№◌, Property, state, value, requested, RowValue, state_is, Table, Contains}
 use Rattle.paper_rows.specs.Load.{Adds, task_3, Initial}
-use Rattle.paper_rows.specs.Laws.Lists.{at_below, below_at}
-use Rattle.paper_rows.specs.Laws.Lawful.{Lawful, defined}
+use Rattle.paper_rows.proofs.Laws.Lists.{at_below, below_at}
+use Rattle.paper_rows.proofs.Laws.Lawful.{Lawful, defined}
 use Rattle.state.specs.Cell.{Cell, absent, plain_state}
 use Rattle.state.specs.Layout.{Rows, TaskColumn, state_column, trigger_column, confirmed_column, count_column, cycles_column, start_column, in_progress_column, discarded_column, completed_column, procedure_column}
 use Rattle.state.specs.Items.{Holds}

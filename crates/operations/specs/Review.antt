@@ -1,7 +1,7 @@
 -- 8.5.1: the rows that the review of a task adds, values by the numbers of their assignments. By the clause that fits.
 use Rattle.std.specs.Prelude.{ℕ, ◌<◌, ◌≡◌, Bool, true, false, ◌↔◌, List}
 use Rattle.std.proofs.Common.{sym, ◌∙◌}
-use Rattle.paper_expressions.specs.Laws.Tests.{contra}
+use Rattle.paper_expressions.proofs.Laws.Tests.{contra}
 use Rattle.paper_rows.specs.Table.{Component, Property, RowValue, Table}
 use Rattle.paper_engine.specs.Conditions.{StartConditions, InitialiseConditions, DiscardConditions, CompleteConditions}
 use Rattle.paper_engine.specs.Operations.{§8·5·1-1, §8·5·1-2, §8·5·1-3, §8·5·1-4, Review, review_1, review_2, review_3, review_4, Initialise, Start, Discard}

@@ -7,8 +7,8 @@ use Rattle.paper_expressions.specs.Values as paper
 use Rattle.paper_expressions.specs.Values.{unknown, truth, Value, one, sequence}
 use Rattle.paper_expressions.specs.Clauses.{Clause, §11·2·3-1, §11·2·3-2}
 use Rattle.paper_expressions.specs.Operators as section-11
-use Rattle.paper_expressions.specs.Laws.Search.{no_clash}
-use Rattle.paper_expressions.specs.Laws.Only.{gives, is_true_fn, is_unknown, not_f, if_f}
+use Rattle.paper_expressions.proofs.Laws.Search.{no_clash}
+use Rattle.paper_expressions.proofs.Laws.Only.{gives, is_true_fn, is_unknown, not_f, if_f}
 use Rattle.values.specs.declared.scalar.Scalar.{Scalar}
 use Rattle.values.specs.declared.scalar.Scalar.TheVariants.{Unknown, Truth, Int, Real, Text}
 use Rattle.values.specs.declared.value.Value as Code

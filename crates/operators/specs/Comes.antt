@@ -8,7 +8,7 @@ use Rattle.paper_expressions.specs.Clauses.{Clause}
 use Rattle.paper_expressions.specs.View.{View, Apart}
 use Rattle.paper_expressions.specs.Operators.{Op, arithmetic, divide, compare, and, or, includes, oneof, if, negate, isknown, not, count, sum, extreme, nth, is-in, no_such}
 use Rattle.paper_expressions.specs.Operators.{F, F-arithmetic, F-divide, F-compare, F-and, F-or, F-includes, F-oneof, F-if, F-negate, F-isknown, F-not, F-count, F-sum, F-extreme, F-nth, F-is-in}
-use Rattle.paper_expressions.specs.Laws.Only.{Answer, gives, fails, run, F-only}
+use Rattle.paper_expressions.proofs.Laws.Only.{Answer, gives, fails, run, F-only}
 use Rattle.values.specs.declared.value.Value as Code
 use Rattle.values.specs.declared.scalar.Scalar.{Scalar}
 use Rattle.values.specs.declared.scalar.Scalar.TheVariants.{Unknown}

@@ -1,4 +1,3 @@
 pub mod Conditions
 pub mod Operations
 pub mod Cycle
-pub mod Laws

@@ -11,4 +11,3 @@ pub mod Evaluation
 pub mod Called
 pub mod Within
 pub mod Promises
-pub mod Laws

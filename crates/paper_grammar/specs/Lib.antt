@@ -2,4 +2,3 @@ pub mod Nonterminals
 pub mod Cfg
 pub mod Grammar
 pub mod Sentence
-pub mod Laws

@@ -6,4 +6,3 @@ pub mod Limits
 pub mod Names
 pub mod Refusals
 pub mod Line
-pub mod Laws

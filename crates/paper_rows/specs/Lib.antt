@@ -1,4 +1,3 @@
 pub mod Table
 pub mod Bare
 pub mod Load
-pub mod Laws

@@ -5,4 +5,3 @@ pub mod Words
 pub mod Lexical
 pub mod Terminals
 pub mod Literals
-pub mod Laws

@@ -6,14 +6,14 @@ use Rattle.paper_expressions.specs.Bytes.{bytes}
 use Rattle.paper_expressions.specs.Values.{Scalar, Value, one, sequence, integer, text}
 use Rattle.paper_expressions.specs.Types.{Declared, a_text, a_setof_integer, SetofInteger, Of, of_list, element_integer, each_none, each_more, integer-of}
 use Rattle.paper_expressions.specs.View.{At, at_first, at_later}
-use Rattle.paper_expressions.specs.Laws.Search.{at_has}
+use Rattle.paper_expressions.proofs.Laws.Search.{at_has}
 use Rattle.paper_expressions.specs.Operators.{compare, extreme, is<, min}
 use Rattle.paper_expressions.specs.Expressions.{Atom, IntegerLit, Apply, ε, ◌▸◌}
 use Rattle.paper_tokens.specs.Kinds.{kind_of}
 use Rattle.paper_tokens.specs.Words.{reserved, yes_or_no, data_types}
 use Rattle.paper_tokens.specs.Lexical.{bare_atom, quoted_atom, integer_form, plain_float, exponent, float_form, string_form, white_form, comment_form}
-use Rattle.paper_tokens.specs.Laws.FormsLaws.{nul, deriv}
-use Rattle.paper_tokens.specs.Laws.TerminalLaws.{terminal_f}
+use Rattle.paper_tokens.proofs.Laws.FormsLaws.{nul, deriv}
+use Rattle.paper_tokens.proofs.Laws.TerminalLaws.{terminal_f}
 use Rattle.paper_guideline.specs.LeftOut.{left_out_words, left_out_functors}
 use Rattle.paper_guideline.specs.Tree.{infixes}
 use Rattle.paper_guideline.specs.Structure
@@ -21,20 +21,20 @@ use Structure.{TopLevel, plan, action, enquiry}
 use Rattle.paper_rows.specs.Table
 use Table.{task, data_item, ◌№◌, state, type, value, requested, type_is, state_is, value_is, truth_row, Table, Contains, TaskId, DataItemId, properties, kinds, an_action, action_is_task}
 use Rattle.paper_rows.specs.Load.{data_item_3, data_item_4b, task_3}
-use Rattle.paper_rows.specs.Laws.RowLists.{look_f}
-use Rattle.paper_rows.specs.Laws.Lawful.{Lawful}
-use Rattle.paper_rows.specs.Laws.LoadLaws.{lawful_if}
-use Rattle.paper_rows.specs.Laws.InitialLaws.{load_f, initial}
+use Rattle.paper_rows.proofs.Laws.RowLists.{look_f}
+use Rattle.paper_rows.proofs.Laws.Lawful.{Lawful}
+use Rattle.paper_rows.proofs.Laws.LoadLaws.{lawful_if}
+use Rattle.paper_rows.proofs.Laws.InitialLaws.{load_f, initial}
 use Rattle.paper_engine.specs.Cycle.{Report, ends, quiet}
-use Rattle.paper_engine.specs.Laws.Kept.{Kept, has, task_id, initial_kept, fixed_class, fixed_type}
-use Rattle.paper_engine.specs.Laws.Twins.{evaluate_f, schedule_f, scheduled_f, start_f, initialise_up_f, termination_f, discard_2_f, discard_up_f, settled_f, complete_f, cycle_f, review_f}
-use Rattle.paper_engine.specs.Laws.RowsLaws.{changes_f, target_f}
-use Rattle.paper_engine.specs.Laws.EnactLaws.{enact_f, collision_f}
-use Rattle.paper_engine.specs.Laws.Worked.{called, expr, placed, define, part, after, states_f}
+use Rattle.paper_engine.proofs.Laws.Kept.{Kept, has, task_id, initial_kept, fixed_class, fixed_type}
+use Rattle.paper_engine.proofs.Laws.Twins.{evaluate_f, schedule_f, scheduled_f, start_f, initialise_up_f, termination_f, discard_2_f, discard_up_f, settled_f, complete_f, cycle_f, review_f}
+use Rattle.paper_engine.proofs.Laws.RowsLaws.{changes_f, target_f}
+use Rattle.paper_engine.proofs.Laws.EnactLaws.{enact_f, collision_f}
+use Rattle.paper_engine.proofs.Laws.Worked.{called, expr, placed, define, part, after, states_f}
 use Rattle.paper_calls.specs.Calls
 use Calls.{State, empty, done, ran, row, shows_value, Small, SmallScalar, small_list, small_integer, load, run, set_engine_time, confirm_task, add_data_value, read_row, Calls, time_done, confirm_done, add_done, read_done, a_row, shown_value, Series, no_call, then_call}
-use Rattle.paper_calls.specs.Laws.CallLaws.{sets_kept, confirm_mild, add_mild}
-use Rattle.paper_calls.specs.Laws.WorkedCalls.{confirm_rows, confirms, add_rows, adds_value, state_of, ready, end_f, after_f, runs, kept_after}
+use Rattle.paper_calls.proofs.Laws.CallLaws.{sets_kept, confirm_mild, add_mild}
+use Rattle.paper_calls.proofs.Laws.WorkedCalls.{confirm_rows, confirms, add_rows, adds_value, state_of, ready, end_f, after_f, runs, kept_after}
 use Rattle.paper_worked.specs.Loading.{Loads, loads_if, load_of}
 use Rattle.paper_worked.specs.Texts.{lines}
 use Rattle.paper_worked.specs.FromTexts as FromTexts

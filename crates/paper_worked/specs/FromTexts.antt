@@ -2,13 +2,13 @@
 -- What follows by a trigger or a value is in WorkedCalls, from the state that the clock leaves here.
 use Rattle.std.specs.Prelude.{ℕ, ◌≤◌, false, List}
 use Rattle.std.proofs.Common.{arith}
-use Rattle.paper_expressions.specs.Laws.Search.{no_clash}
+use Rattle.paper_expressions.proofs.Laws.Search.{no_clash}
 use Rattle.paper_guideline.specs.Structure.{TopLevel}
 use Rattle.paper_engine.specs.Cycle.{Report}
-use Rattle.paper_rows.specs.Laws.RowLists.{look_f}
-use Rattle.paper_rows.specs.Laws.InitialLaws.{load_f}
-use Rattle.paper_engine.specs.Laws.EnactLaws.{run_f}
-use Rattle.paper_engine.specs.Laws.Worked.{Worked, worked_plots, worked_terminal, worked_unwanted, worked_triggered, worked_source, worked_collision, worked_bounds}
+use Rattle.paper_rows.proofs.Laws.RowLists.{look_f}
+use Rattle.paper_rows.proofs.Laws.InitialLaws.{load_f}
+use Rattle.paper_engine.proofs.Laws.EnactLaws.{run_f}
+use Rattle.paper_engine.proofs.Laws.Worked.{Worked, worked_plots, worked_terminal, worked_unwanted, worked_triggered, worked_source, worked_collision, worked_bounds}
 use Rattle.paper_calls.specs.Calls.{State, empty, loaded, done, ran, cycle_limit, load, run, set_engine_time, Unready, flag_set, Calls, run_done, time_done}
 use Rattle.paper_worked.specs.Loading.{Loads, load_of}
 use Rattle.paper_worked.specs.Texts

@@ -5,16 +5,16 @@ use Rattle.std.proofs.Common.{arith, sym, ap, subst, ◌∙◌, ⊎_elim, length
 use Rattle.std.proofs.Math.Option.{Option, none, some}
 use mathlib.Core.List.{List, [], ◌∷◌, Memᴰ}
 use Rattle.std.proofs.lemmas.Bool.{eqb-false}
-use Rattle.paper_expressions.specs.Laws.Tests.{Iff, contra, two, and_l, and_r, or_l, or_r, or_cases}
+use Rattle.paper_expressions.proofs.Laws.Tests.{Iff, contra, two, and_l, and_r, or_l, or_r, or_cases}
 use Rattle.paper_expressions.specs.Bytes.{bytes}
 use Rattle.paper_tokens.specs.Kinds.{kind_of}
 use Rattle.paper_tokens.specs.Forms.{Form, never, empty, any, one, ◌then◌, ◌or◌, many, no}
 use Rattle.paper_tokens.specs.Words.{reserved}
 use Rattle.paper_tokens.specs.Lexical.{Rule, reserved_word, atom, integer, float, double_quoted_string, white_space, comment, order, bare_atom, quoted_atom, integer_form, float_form, string_form, white_form, comment_form}
 use Rattle.paper_tokens.specs.Lexical.{Matches, Longest, Skipped, skips_white_space, skips_comment, Token, token, Tokens, at_end, skip, take_token}
-use Rattle.paper_tokens.specs.Laws.FormsLaws.{nul, deriv, match_f, match_law}
-use Rattle.paper_tokens.specs.Laws.LexicalLaws.{same_order}
-use Rattle.paper_tokens.specs.Laws.LexicalTwin.{same, same_is, same_self, skipped}
+use Rattle.paper_tokens.proofs.Laws.FormsLaws.{nul, deriv, match_f, match_law}
+use Rattle.paper_tokens.proofs.Laws.LexicalLaws.{same_order}
+use Rattle.paper_tokens.proofs.Laws.LexicalTwin.{same, same_is, same_self, skipped}
 
 -- ---- what the rules still ask for, behind some bytes
 

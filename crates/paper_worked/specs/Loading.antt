@@ -2,17 +2,17 @@
 use Rattle.std.specs.Prelude.{ℕ, ◌≡◌, refl, true, false, List}
 use Rattle.std.proofs.Common.{subst}
 use Rattle.std.proofs.Math.Option.{Option, none, some}
-use Rattle.paper_expressions.specs.Laws.Search.{of_no, no_clash}
-use Rattle.paper_expressions.specs.Laws.Tests.{contra}
+use Rattle.paper_expressions.proofs.Laws.Search.{of_no, no_clash}
+use Rattle.paper_expressions.proofs.Laws.Tests.{contra}
 use Rattle.paper_tokens.specs.Lexical.{Token, Tokens}
 use Rattle.paper_guideline.specs.Structure.{TopLevel, Structure}
 use Rattle.paper_guideline.specs.Refusals.{Read, Answer, loads, refused, Answers}
-use Rattle.paper_guideline.specs.Laws.AnswerLaws.{answer_f, structured_answer}
+use Rattle.paper_guideline.proofs.Laws.AnswerLaws.{answer_f, structured_answer}
 use Rattle.paper_rows.specs.Load.{Initial}
 use Rattle.paper_rows.specs.Bare.{bare_guideline}
-use Rattle.paper_rows.specs.Laws.RowLists.{look_f}
-use Rattle.paper_rows.specs.Laws.Lawful.{Lawful}
-use Rattle.paper_rows.specs.Laws.InitialLaws.{load_f, initial}
+use Rattle.paper_rows.proofs.Laws.RowLists.{look_f}
+use Rattle.paper_rows.proofs.Laws.Lawful.{Lawful}
+use Rattle.paper_rows.proofs.Laws.InitialLaws.{load_f, initial}
 use Rattle.paper_calls.specs.Calls.{State, loaded, done, load, Calls, load_done}
 use Rattle.paper_worked.specs.Lexer.{tokens_f, tokens_are}
 use Rattle.paper_worked.specs.Reader.{structure_f}

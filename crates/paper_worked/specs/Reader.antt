@@ -3,12 +3,12 @@ use Rattle.std.specs.Prelude.{ℕ, zero, suc, ◌≡◌, refl, Bool, true, false
 use Rattle.std.proofs.Common.{sym, ap, subst, ◌∙◌, eqb-true}
 use Rattle.std.proofs.Math.Option.{Option, none, some}
 use mathlib.Core.List.{List, [], ◌∷◌, ◌++◌, map, Memᴰ}
-use Rattle.paper_expressions.specs.Laws.Tests.{contra, and_l, and_r}
+use Rattle.paper_expressions.proofs.Laws.Tests.{contra, and_l, and_r}
 use Rattle.paper_expressions.specs.Bytes.{bytes}
 use Rattle.paper_expressions.specs.Types.{Declared, a_text, an_integer, a_boolean, a_datetime, a_date, a_time, a_real, a_setof_text, a_setof_integer, a_setof_real}
 use Rattle.paper_expressions.specs.Syntax.{Op, Expr, Atom, IntegerLit, FloatLit, StringLit, Paren, Listing, Apply, ε, ◌▸◌}
 use Rattle.paper_expressions.specs.Syntax as Syntax
-use Rattle.paper_expressions.specs.Laws.Functors.{functor_f, functor_fits}
+use Rattle.paper_expressions.proofs.Laws.Functors.{functor_f, functor_fits}
 use Rattle.paper_tokens.specs.Tokens
 use Tokens.{“data”, “type”, “end”, “::”, “semicolon”, “dot”, “open”, “close”, “[”, “]”, “comma”, “=”, “-”, “and”}
 use Tokens.{“caption”, “description”, “precondition”, “wait-condition”, “postcondition”, “trigger”, “terminate”, “component”, “source”, “schedule-constraint”, “completed”, “terminal”, “mandatory”}
@@ -16,9 +16,9 @@ use Rattle.paper_tokens.specs.Words.{yes_or_no, data_types}
 use Rattle.paper_tokens.specs.Lexical.{Rule, reserved_word, atom, integer, float, double_quoted_string, order, Token}
 use Rattle.paper_tokens.specs.Literals.{whole, thousandths}
 use Rattle.paper_tokens.specs.Terminals.{Terminal, a_reserved_word, yes_no, a_data_type, name}
-use Rattle.paper_tokens.specs.Laws.LexicalLaws.{same_order}
-use Rattle.paper_tokens.specs.Laws.LexicalTwin.{same, same_is, word_f, word_found}
-use Rattle.paper_tokens.specs.Laws.TerminalLaws.{one_of, one_of_is}
+use Rattle.paper_tokens.proofs.Laws.LexicalLaws.{same_order}
+use Rattle.paper_tokens.proofs.Laws.LexicalTwin.{same, same_is, word_f, word_found}
+use Rattle.paper_tokens.proofs.Laws.TerminalLaws.{one_of, one_of_is}
 use Rattle.paper_guideline.specs.Tree.{infixes, Where, anywhere, assigned, MayStand, any_operator, but_and, Tree, infix_operator, looser, unary_minus, an_atom, a_float, a_string, parentheses, a_list, a_call, Trees, empty, nonempty, SomeTrees, last, then_more}
 use Rattle.paper_guideline.specs.Tree as Tree
 use Rattle.paper_guideline.specs.Structure

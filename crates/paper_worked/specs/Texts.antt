@@ -5,11 +5,11 @@ use Rattle.paper_expressions.specs.Bytes.{bytes}
 use Rattle.paper_tokens.specs.Kinds.{kind_of}
 use Rattle.paper_tokens.specs.Words.{reserved, yes_or_no, data_types}
 use Rattle.paper_tokens.specs.Lexical.{bare_atom, quoted_atom, integer_form, plain_float, exponent, float_form, string_form, white_form, comment_form}
-use Rattle.paper_tokens.specs.Laws.FormsLaws.{nul, deriv}
-use Rattle.paper_tokens.specs.Laws.TerminalLaws.{terminal_f}
+use Rattle.paper_tokens.proofs.Laws.FormsLaws.{nul, deriv}
+use Rattle.paper_tokens.proofs.Laws.TerminalLaws.{terminal_f}
 use Rattle.paper_guideline.specs.LeftOut.{left_out_words, left_out_functors}
 use Rattle.paper_guideline.specs.Tree.{infixes}
-use Rattle.paper_engine.specs.Laws.Worked.{plots, terminal_part, unwanted, triggered, mandatory_source, collision}
+use Rattle.paper_engine.proofs.Laws.Worked.{plots, terminal_part, unwanted, triggered, mandatory_source, collision}
 use Rattle.paper_worked.specs.Loading.{Loads, loads_if}
 
 -- a text by its lines, each ended by a newline

@@ -3,7 +3,7 @@ use Rattle.std.specs.Prelude.{◌≡◌, refl, Bool, true, false, ◌&&◌, List
 use Rattle.std.proofs.Common.{ap, subst, ◌∙◌, not-suc-le-zero, arith, eq-eqb, ne_eqb}
 use Rattle.paper_expressions.specs.Bytes.{fold, folded, Alike}
 use Rattle.paper_expressions.specs.View.{View, Item, At, at_first, at_later}
-use Rattle.paper_expressions.specs.Laws.Search.{alikeb, alike_reflects, true_reflects, reflects_true}
+use Rattle.paper_expressions.proofs.Laws.Search.{alikeb, alike_reflects, true_reflects, reflects_true}
 use Rattle.parts.specs.Texts.{cells, text_at_fn}
 use Rattle.parts.specs.Items.{Items, Found}
 

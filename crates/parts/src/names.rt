@@ -2,7 +2,7 @@
 // A text is given by its place in the bytes and its length; a byte past the end of the bytes is 0.
 ghost use Rattle.std.specs.Prelude.{◌≡◌, ◌+◌, get_or};
 ghost use Rattle.paper_expressions.specs.Bytes.{fold};
-ghost use Rattle.paper_expressions.specs.Laws.Search.{alikeb};
+ghost use Rattle.paper_expressions.proofs.Laws.Search.{alikeb};
 ghost use Rattle.parts.specs.Texts.{cells};
 ghost use Rattle.parts.specs.Items.{Found};
 

@@ -2,8 +2,8 @@
 use Rattle.std.specs.Prelude.{ℕ, zero, suc, ◌+◌, ◌-◌, ◌≤◌, ◌<◌, ◌≡◌, refl, Bool, true, false, cond, ◌&&◌, ◌||◌, ◌⊎◌, List, [], ◌∷◌, eqb, ltb, leb, length, get_or, set}
 use Rattle.std.proofs.Common.{sym, ap, subst, ◌∙◌, ⊎_elim, arith, length-set, get_or-set_same, get_or-set_other, eqb-true, leb-true, eq-eqb}
 use Rattle.std.proofs.Math.Decide.{dec_lt}
-use Rattle.paper_expressions.specs.Laws.Tests.{contra, both, and_l, and_r, or_cases, every}
-use Rattle.paper_grammar.specs.Laws.Ll.{is_in}
+use Rattle.paper_expressions.proofs.Laws.Tests.{contra, both, and_l, and_r, or_cases, every}
+use Rattle.paper_grammar.proofs.Laws.Ll.{is_in}
 use Rattle.row_names.specs.Agreement.{in_list}
 use Rattle.plan.specs.Writes
 use Writes.{Column, task_count, item_count, parent, triggered, terminal, order, confirms, class, first_source, source_count, source_item, mandatory, precondition, wait_condition, terminate, first_assignment, assignment_count, target, assigned-end, name, trigger, item_name, item_type, assigned_by}

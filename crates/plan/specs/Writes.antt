@@ -1,10 +1,10 @@
 -- What each row of a guideline writes to the plan, column by column, and who waits for whom: from the rows in their order. Definitions only.
 -- A row writes by its kind, by what the rows before it count, and by the names of all tasks and data items.
 use Rattle.std.specs.Prelude.{ℕ, zero, suc, ◌+◌, ◌-◌, Bool, true, false, cond, not, ◌&&◌, ◌||◌, List, [], ◌∷◌, eqb, ltb}
-use Rattle.paper_expressions.specs.Laws.Search.{sameb, alikeb}
+use Rattle.paper_expressions.proofs.Laws.Search.{sameb, alikeb}
 use Rattle.paper_tokens.specs.Tokens
 use Tokens.{“plan”, “action”, “enquiry”, “data”, “=”, “precondition”, “wait-condition”, “terminate”, “trigger”, “component”, “schedule-constraint”, “terminal”, “source”, “mandatory”}
-use Rattle.paper_grammar.specs.Laws.Ll.{is_in}
+use Rattle.paper_grammar.proofs.Laws.Ll.{is_in}
 use Rattle.parts.specs.Texts.{text_at_fn}
 use Rattle.row_names.specs.Sheet.{task_kind}
 use Rattle.row_names.specs.Flat.{is_data}

@@ -2,7 +2,7 @@
 use Rattle.std.specs.Prelude.{ℕ, zero, suc, ◌+◌, ◌≤◌, ◌<◌, ◌≡◌, refl, Bool, true, false, cond, ◌&&◌, ◌⊎◌, List, eqb, ltb, get_or}
 use Rattle.std.proofs.Common.{sym, ap, subst, ◌∙◌, ⊎_elim, arith, ltb-true, ltb-false, eq-eqb, ne_eqb}
 use Rattle.std.proofs.Math.Decide.{dec_lt}
-use Rattle.paper_expressions.specs.Laws.Tests.{contra, two, both, and_l, and_r}
+use Rattle.paper_expressions.proofs.Laws.Tests.{contra, two, both, and_l, and_r}
 use Rattle.paper_tokens.specs.Tokens.{“component”}
 use Rattle.parts.specs.Texts.{text_at_fn}
 use Rattle.row_names.specs.Sheet.{task_kind}

@@ -3,7 +3,7 @@ use Rattle.std.specs.Prelude.{ℕ, zero, suc, ◌+◌, ◌≤◌, ◌<◌, ◌�
 use Rattle.std.proofs.Common.{sym, ap, subst, ◌∙◌, ⊎_elim, arith, add-one, length-set, get_or-set_same, get_or-set_other, eqb-true, eq-eqb, ne_eqb}
 use Rattle.std.proofs.lemmas.List.{length-replicate, get_or-replicate}
 use Rattle.std.proofs.lemmas.Bool.{eqb-false}
-use Rattle.paper_expressions.specs.Laws.Tests.{two}
+use Rattle.paper_expressions.proofs.Laws.Tests.{two}
 use Rattle.paper_tokens.specs.Tokens.{“schedule-constraint”}
 use Rattle.parts.specs.Texts.{text_at_fn}
 use Rattle.row_names.specs.Sheet.{task_kind}

@@ -4,15 +4,15 @@ use Rattle.std.proofs.Common.{arith, sym, ap, subst, ◌∙◌}
 use Rattle.std.proofs.Math.Decide.{dec_lt}
 use Rattle.paper_expressions.specs.Bytes.{folded, Alike}
 use Rattle.paper_expressions.specs.View.{At}
-use Rattle.paper_expressions.specs.Laws.Search.{at_one}
-use Rattle.paper_expressions.specs.Laws.Parentheses.{bare}
+use Rattle.paper_expressions.proofs.Laws.Search.{at_one}
+use Rattle.paper_expressions.proofs.Laws.Parentheses.{bare}
 use Rattle.paper_tokens.specs.Tokens.{“=”}
 use Rattle.paper_guideline.specs.Structure
 use Structure.{Assignment, Task, DataItem, TopLevel, tasks, data_items}
 use Rattle.paper_guideline.specs.Parts.{assignments}
 use Rattle.paper_guideline.specs.Parts.{assignments_of}
-use Rattle.paper_rows.specs.Laws.Lists.{at_below, below_at, before, before_at}
-use Rattle.paper_rows.specs.Laws.Lawful.{Lawful}
+use Rattle.paper_rows.proofs.Laws.Lists.{at_below, below_at, before, before_at}
+use Rattle.paper_rows.proofs.Laws.Lawful.{Lawful}
 use Rattle.parts.specs.Part.{Table, Ends}
 use Rattle.row_names.specs.Pieces.{locate, piece_at}
 use Rattle.row_names.specs.Sheet.{task_kind}

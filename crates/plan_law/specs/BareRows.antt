@@ -3,7 +3,7 @@ use Rattle.std.specs.Prelude.{ℕ, ◌≡◌, refl, List, [], ◌∷◌, ◌++�
 use Rattle.std.proofs.Common.{arith, sym, ap, ◌∙◌}
 use Rattle.std.proofs.Math.Option.{none, some}
 use Rattle.paper_expressions.specs.Expressions.{Expr, Exprs, Atom, IntegerLit, FloatLit, StringLit, Paren, Listing, Apply, ε, ◌▸◌}
-use Rattle.paper_expressions.specs.Laws.Parentheses.{bare, bares}
+use Rattle.paper_expressions.proofs.Laws.Parentheses.{bare, bares}
 use Rattle.paper_tokens.specs.Tokens.{“component”, “source”}
 use Rattle.paper_guideline.specs.Structure
 use Structure.{Name, Outermost, Placed, Assignment, ComponentAttribute, Generic, SourceAttribute, Attribute, TopLevel, task, data_item}

@@ -1,10 +1,10 @@
 -- Each column of the plan, row by row: the kind of row that writes it, the cell and the value. By cases on the kind.
 use Rattle.std.specs.Prelude.{ℕ, suc, ◌+◌, ◌-◌, ◌≡◌, refl, Bool, true, false, cond, ◌&&◌, ◌⊎◌, [], ◌∷◌, eqb}
 use Rattle.std.proofs.Common.{sym, ap, subst, ◌∙◌, inl, inr, eqb-true}
-use Rattle.paper_expressions.specs.Laws.Tests.{contra, two}
+use Rattle.paper_expressions.proofs.Laws.Tests.{contra, two}
 use Rattle.paper_tokens.specs.Tokens
 use Tokens.{“plan”, “action”, “enquiry”, “data”, “=”, “precondition”, “wait-condition”, “terminate”, “trigger”, “component”, “terminal”, “source”, “mandatory”}
-use Rattle.paper_grammar.specs.Laws.Ll.{is_in}
+use Rattle.paper_grammar.proofs.Laws.Ll.{is_in}
 use Rattle.row_names.specs.Sheet.{task_kind}
 use Rattle.plan.specs.Writes
 use Writes.{Outline, store, Sort, a_task, a_data_item, a_precondition, a_wait_condition, a_terminate, a_trigger, a_component, a_terminal, a_source, a_mandatory, an_assignment, another, sort_of, entries_of, plan_f}

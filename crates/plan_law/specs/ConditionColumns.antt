@@ -3,13 +3,13 @@ use Rattle.std.specs.Prelude.{ℕ, suc, ◌+◌, ◌-◌, ◌≤◌, ◌<◌, �
 use Rattle.std.proofs.Common.{arith, sym, ap, subst, ◌∙◌}
 use Rattle.std.proofs.Math.Option.{some}
 use Rattle.paper_expressions.specs.Expressions.{Expr}
-use Rattle.paper_expressions.specs.Laws.Parentheses.{bare}
+use Rattle.paper_expressions.proofs.Laws.Parentheses.{bare}
 use Rattle.paper_tokens.specs.Tokens.{“=”, “precondition”, “wait-condition”, “terminate”}
 use Rattle.paper_guideline.specs.Structure
 use Structure.{Outermost, Attribute, TopLevel, tasks}
 use Rattle.paper_rows.specs.Load.{SetTaskAttribute, attribute_5_precondition, attribute_5_wait_condition, attribute_5_terminate}
-use Rattle.paper_rows.specs.Laws.Lawful.{Lawful}
-use Rattle.paper_rows.specs.Laws.SingleLaws.{adds_once}
+use Rattle.paper_rows.proofs.Laws.Lawful.{Lawful}
+use Rattle.paper_rows.proofs.Laws.SingleLaws.{adds_once}
 use Rattle.parts.specs.Part.{Table, Ends}
 use Rattle.guideline_rows.specs.Rows.{expression_of}
 use Rattle.row_names.specs.Sheet.{head_kind}

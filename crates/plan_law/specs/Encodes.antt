@@ -6,10 +6,10 @@ use Rattle.std.proofs.Math.Option.{some}
 use Rattle.std.proofs.lemmas.List.{length-map}
 use Rattle.paper_expressions.specs.Expressions.{Expr}
 use Rattle.paper_expressions.specs.View.{At}
-use Rattle.paper_expressions.specs.Laws.Parentheses.{bare}
+use Rattle.paper_expressions.proofs.Laws.Parentheses.{bare}
 use Rattle.paper_guideline.specs.Structure.{Name, Outermost, TopLevel}
 use Rattle.paper_rows.specs.Bare.{bare_guideline}
-use Rattle.paper_rows.specs.Laws.Lists.{map_at}
+use Rattle.paper_rows.proofs.Laws.Lists.{map_at}
 use Rattle.parts.specs.Texts.{text_at_fn}
 use Rattle.parts.specs.Part.{table, Ends}
 use Rattle.parts.specs.Encode.{flat, Spelt}

@@ -5,9 +5,9 @@ use Rattle.std.proofs.Common.{arith}
 use Rattle.paper_guideline.specs.Structure.{TopLevel}
 use Rattle.paper_guideline.specs.Refusals.{Read, Answers, loads}
 use Rattle.paper_rows.specs.Bare.{bare_guideline}
-use Rattle.paper_rows.specs.Laws.Lawful.{Lawful}
-use Rattle.paper_rows.specs.Laws.LoadLaws.{lawful}
-use Rattle.paper_rows.specs.Laws.BareLaws.{bare_lawful}
+use Rattle.paper_rows.proofs.Laws.Lawful.{Lawful}
+use Rattle.paper_rows.proofs.Laws.LoadLaws.{lawful}
+use Rattle.paper_rows.proofs.Laws.BareLaws.{bare_lawful}
 use Rattle.parts.specs.Part.{table}
 use Rattle.guideline_rows.specs.Rows.{flatten}
 use Rattle.guideline_rows.specs.Encoded.{text_of, Encoded}

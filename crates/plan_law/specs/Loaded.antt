@@ -4,8 +4,8 @@ use Rattle.std.specs.Prelude.{ℕ, ◌≤◌, ◌<◌, ◌≡◌, refl, ◌⊎�
 use Rattle.std.proofs.Common.{arith, sym, ap, subst, ◌∙◌, inl, inr, length-append}
 use Rattle.std.proofs.lemmas.List.{length-map}
 use Rattle.paper_expressions.specs.View.{At, at_first, at_later}
-use Rattle.paper_expressions.specs.Laws.Parentheses.{bare}
-use Rattle.paper_expressions.specs.Laws.Search.{no_clash}
+use Rattle.paper_expressions.proofs.Laws.Parentheses.{bare}
+use Rattle.paper_expressions.proofs.Laws.Search.{no_clash}
 use Rattle.paper_tokens.specs.Lexical.{Token}
 use Rattle.paper_guideline.specs.Structure
 use Structure.{Placed, Generic, Attribute, Assignment, Task, TopLevel, tasks, Series, and_more, Assertion, AttributeAt, TaskAt, TopLevelAt, Structure}
@@ -13,10 +13,10 @@ use Rattle.paper_guideline.specs.Parts.{Typed, expressions}
 use Rattle.paper_guideline.specs.Limits.{depth_limit, depth}
 use Rattle.paper_guideline.specs.Refusals.{Read, Answers, loads, is_loaded, Breach, text_stage, count_stage, limit_stage, long, many_tokens, too_deep}
 use Rattle.paper_rows.specs.Bare.{bare_assignment, bare_placed, bare_attribute, bare_task, bare_guideline}
-use Rattle.paper_rows.specs.Laws.Lists.{no_element, map_at, parted}
-use Rattle.paper_rows.specs.Laws.FineLaws.{sized}
-use Rattle.paper_rows.specs.Laws.Sized.{bare_sized}
-use Rattle.paper_rows.specs.Laws.BareLaws.{bare_typed, bare_tasks, bare_expressions}
+use Rattle.paper_rows.proofs.Laws.Lists.{no_element, map_at, parted}
+use Rattle.paper_rows.proofs.Laws.FineLaws.{sized}
+use Rattle.paper_rows.proofs.Laws.Sized.{bare_sized}
+use Rattle.paper_rows.proofs.Laws.BareLaws.{bare_typed, bare_tasks, bare_expressions}
 use Rattle.parts.specs.Part.{Within}
 use Rattle.expression_reader.specs.Reads.{within_depth}
 use Rattle.guideline_rows.specs.Rows.{flatten}

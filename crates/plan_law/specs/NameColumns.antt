@@ -2,15 +2,15 @@
 use Rattle.std.specs.Prelude.{ℕ, zero, suc, ◌+◌, ◌-◌, ◌≤◌, ◌<◌, ◌≡◌, refl, true, false, cond, ◌&&◌, ◌⊎◌, List, eqb, get_or, length}
 use Rattle.std.proofs.Common.{arith, sym, ap, subst, ◌∙◌, inl, inr, ne_eqb}
 use Rattle.paper_expressions.specs.View.{At}
-use Rattle.paper_expressions.specs.Laws.Tests.{two}
-use Rattle.paper_expressions.specs.Laws.Search.{at_one}
+use Rattle.paper_expressions.proofs.Laws.Tests.{two}
+use Rattle.paper_expressions.proofs.Laws.Search.{at_one}
 use Rattle.paper_tokens.specs.Tokens.{“data”, “trigger”}
 use Rattle.paper_guideline.specs.Structure
 use Structure.{Name, Attribute, Task, DataItem, TopLevel, tasks, data_items}
 use Rattle.paper_rows.specs.Load.{SetTaskAttribute, attribute_5_trigger}
-use Rattle.paper_rows.specs.Laws.Lists.{at_below}
-use Rattle.paper_rows.specs.Laws.Lawful.{Lawful}
-use Rattle.paper_rows.specs.Laws.SingleLaws.{adds_once}
+use Rattle.paper_rows.proofs.Laws.Lists.{at_below}
+use Rattle.paper_rows.proofs.Laws.Lawful.{Lawful}
+use Rattle.paper_rows.proofs.Laws.SingleLaws.{adds_once}
 use Rattle.parts.specs.Codes.{declared_code}
 use Rattle.parts.specs.Texts.{text_at_fn}
 use Rattle.parts.specs.Part.{Table}

@@ -4,14 +4,14 @@ use Rattle.std.proofs.Common.{arith, sym, ap, subst, ◌∙◌, inl, inr, eqb-tr
 use Rattle.std.proofs.Math.Decide.{dec_lt}
 use Rattle.std.proofs.lemmas.Bool.{not-true}
 use Rattle.paper_expressions.specs.View.{At}
-use Rattle.paper_expressions.specs.Laws.Tests.{contra, two, and_l, and_r, both, or_cases, or_l, or_r}
+use Rattle.paper_expressions.proofs.Laws.Tests.{contra, two, and_l, and_r, both, or_cases, or_l, or_r}
 use Rattle.paper_guideline.specs.Structure
 use Structure.{Task, TopLevel, tasks}
 use Rattle.paper_guideline.specs.Parts as Parts
 use Rattle.paper_rows.specs.Load.{InstantiateTask, load_5, component_6, InstantiateComponent, task_5}
-use Rattle.paper_rows.specs.Laws.Lists.{at_below, below_at}
-use Rattle.paper_rows.specs.Laws.Lawful.{Lawful}
-use Rattle.paper_rows.specs.Laws.ReachLaws.{tally, tally_most, tally_new}
+use Rattle.paper_rows.proofs.Laws.Lists.{at_below, below_at}
+use Rattle.paper_rows.proofs.Laws.Lawful.{Lawful}
+use Rattle.paper_rows.proofs.Laws.ReachLaws.{tally, tally_most, tally_new}
 use Rattle.parts.specs.Part.{Table}
 use Rattle.waits.specs.Twins.{parent_at, order_at}
 use Rattle.plan.specs.Writes as Writes

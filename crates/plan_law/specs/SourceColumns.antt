@@ -2,16 +2,16 @@
 use Rattle.std.specs.Prelude.{ℕ, zero, suc, ◌+◌, ◌-◌, ◌≤◌, ◌<◌, ◌≡◌, refl, Bool, true, List, eqb, get_or, length}
 use Rattle.std.proofs.Common.{arith, sym, ap, subst, ◌∙◌, eqb-true, eq-eqb}
 use Rattle.paper_expressions.specs.View.{At}
-use Rattle.paper_expressions.specs.Laws.Search.{at_one}
+use Rattle.paper_expressions.proofs.Laws.Search.{at_one}
 use Rattle.paper_tokens.specs.Tokens.{“source”, “mandatory”}
 use Rattle.paper_guideline.specs.Structure
 use Structure.{SourceAttribute, Task, DataItem, TopLevel, tasks}
 use Rattle.paper_guideline.specs.Parts.{Source, sources, sources_of}
 use Rattle.paper_rows.specs.Load
 use Load.{InstantiateSource, attribute_3, InstantiateDataItem, source_8}
-use Rattle.paper_rows.specs.Laws.Lists.{at_below, below_at, before}
-use Rattle.paper_rows.specs.Laws.Lawful.{Lawful, defined}
-use Rattle.paper_rows.specs.Laws.SingleLaws.{source_at, adds_once}
+use Rattle.paper_rows.proofs.Laws.Lists.{at_below, below_at, before}
+use Rattle.paper_rows.proofs.Laws.Lawful.{Lawful, defined}
+use Rattle.paper_rows.proofs.Laws.SingleLaws.{source_at, adds_once}
 use Rattle.parts.specs.Part.{Table}
 use Rattle.guideline_rows.specs.Rows.{source_row, kind-of, flag_of}
 use Rattle.row_names.specs.Sheet.{task_kind}

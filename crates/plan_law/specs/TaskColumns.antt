@@ -2,16 +2,16 @@
 use Rattle.std.specs.Prelude.{ℕ, zero, suc, ◌+◌, ◌-◌, ◌≤◌, ◌<◌, ◌≡◌, refl, Bool, true, false, cond, ◌&&◌, ◌⊎◌, List, eqb, get_or, length}
 use Rattle.std.proofs.Common.{arith, sym, ap, subst, ◌∙◌, inl, inr, eqb-true, eq-eqb}
 use Rattle.paper_expressions.specs.View.{At}
-use Rattle.paper_expressions.specs.Laws.Tests.{two}
-use Rattle.paper_expressions.specs.Laws.Search.{at_one}
+use Rattle.paper_expressions.proofs.Laws.Tests.{two}
+use Rattle.paper_expressions.proofs.Laws.Search.{at_one}
 use Rattle.paper_tokens.specs.Tokens.{“action”, “component”, “trigger”, “terminal”}
 use Rattle.paper_guideline.specs.Structure
 use Structure.{Name, ComponentAttribute, Attribute, class_word, Task, TopLevel, tasks}
 use Rattle.paper_guideline.specs.Parts.{Component}
 use Rattle.paper_rows.specs.Load.{InstantiateComponent, SetTaskAttribute, task_4, SetComponentAttribute, component_4, component_attribute_5}
-use Rattle.paper_rows.specs.Laws.Lists.{at_below}
-use Rattle.paper_rows.specs.Laws.Lawful.{Lawful, defined}
-use Rattle.paper_rows.specs.Laws.SingleLaws.{component_once, adds_once}
+use Rattle.paper_rows.proofs.Laws.Lists.{at_below}
+use Rattle.paper_rows.proofs.Laws.Lawful.{Lawful, defined}
+use Rattle.paper_rows.proofs.Laws.SingleLaws.{component_once, adds_once}
 use Rattle.parts.specs.Part.{Table}
 use Rattle.guideline_rows.specs.Rows.{component_row, kind-of, flag_of, answer_code}
 use Rattle.row_names.specs.Sheet.{task_kind}

@@ -3,16 +3,16 @@ use Rattle.std.specs.Prelude.{ℕ, ◌≤◌, ◌<◌, ◌≡◌, refl, Bool, tr
 use Rattle.std.proofs.Common.{arith, sym, ap, subst, ◌∙◌, eqb-true, eq-eqb}
 use Rattle.std.proofs.Math.Option.{Option}
 use Rattle.paper_expressions.specs.View.{At}
-use Rattle.paper_expressions.specs.Laws.Tests.{and_l, and_r, both}
-use Rattle.paper_expressions.specs.Laws.Search.{sameb, same_reflects, Looked, found, missing, looked}
+use Rattle.paper_expressions.proofs.Laws.Tests.{and_l, and_r, both}
+use Rattle.paper_expressions.proofs.Laws.Search.{sameb, same_reflects, Looked, found, missing, looked}
 use Rattle.paper_tokens.specs.Tokens.{“schedule-constraint”}
 use Rattle.paper_guideline.specs.Structure
 use Structure.{Name, ComponentAttribute, schedule_constraint, TopLevel, tasks}
 use Rattle.paper_guideline.specs.Parts.{Component, components_of}
 use Rattle.paper_guideline.specs.Names.{constraint_on_none}
 use Rattle.paper_rows.specs.Load.{InstantiateComponent, task_5}
-use Rattle.paper_rows.specs.Laws.Lists.{at_below}
-use Rattle.paper_rows.specs.Laws.Lawful.{Lawful, defined}
+use Rattle.paper_rows.proofs.Laws.Lists.{at_below}
+use Rattle.paper_rows.proofs.Laws.Lawful.{Lawful, defined}
 use Rattle.parts.specs.Part.{Table}
 use Rattle.guideline_rows.specs.Rows.{component_row, kind-of, name_of}
 use Rattle.waits.specs.Twins.{marked, waiting}

@@ -2,7 +2,7 @@
 use Rattle.std.specs.Prelude.{ℕ, zero, suc, ◌+◌, ◌≤◌, ◌<◌, ◌≡◌, refl, Bool, true, false, cond, ◌&&◌, ◌||◌, ◌⊎◌, eqb}
 use Rattle.std.proofs.Common.{arith, sym, ap, subst, ◌∙◌, inl, inr, eqb-true, eq-eqb}
 use Rattle.std.proofs.Math.Decide.{dec_lt}
-use Rattle.paper_expressions.specs.Laws.Tests.{contra, two, and_l, and_r, both, or_cases}
+use Rattle.paper_expressions.proofs.Laws.Tests.{contra, two, and_l, and_r, both, or_cases}
 use Rattle.plan.specs.Writes.{one_if, counted}
 use Rattle.plan_rows.specs.Last.{none_put, last_put, some_put}
 

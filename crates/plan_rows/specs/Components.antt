@@ -3,17 +3,17 @@ use Rattle.std.specs.Prelude.{ℕ, suc, ◌-◌, ◌<◌, ◌≡◌, refl, Bool,
 use Rattle.std.proofs.Common.{sym, ap, subst, ◌∙◌, eqb-true, eq-eqb}
 use Rattle.std.proofs.Math.Option.{Option}
 use Rattle.paper_expressions.specs.View.{At, at_later}
-use Rattle.paper_expressions.specs.Laws.Search.{at_one, sameb, same_reflects, Looked, found, missing, looked}
+use Rattle.paper_expressions.proofs.Laws.Search.{at_one, sameb, same_reflects, Looked, found, missing, looked}
 use Rattle.paper_tokens.specs.Tokens.{“=”, “component”, “caption”, “description”, “mandatory”}
-use Rattle.paper_grammar.specs.Laws.Ll.{is_in}
-use Rattle.paper_expressions.specs.Laws.Tests.{contra}
+use Rattle.paper_grammar.proofs.Laws.Ll.{is_in}
+use Rattle.paper_expressions.proofs.Laws.Tests.{contra}
 use Rattle.paper_guideline.specs.Structure
 use Structure.{Placed, ComponentAttribute, SourceAttribute, Attribute, class_word, Task, TopLevel, tasks}
 use Rattle.paper_guideline.specs.Parts.{Component, components_of}
 use Rattle.paper_guideline.specs.Names.{Names, component_of_no_task}
 use Rattle.paper_rows.specs.Load.{InstantiateComponent, task_5}
-use Rattle.paper_rows.specs.Laws.Lists.{each_at}
-use Rattle.paper_rows.specs.Laws.Lawful.{Lawful, defined}
+use Rattle.paper_rows.proofs.Laws.Lists.{each_at}
+use Rattle.paper_rows.proofs.Laws.Lawful.{Lawful, defined}
 use Rattle.parts.specs.Part.{Table}
 use Rattle.guideline_rows.specs.Rows
 use Rows.{Row, component_row, source_row, attribute_rows, flatten, kind-of, name_of}

@@ -2,7 +2,7 @@
 use Rattle.std.specs.Prelude.{ℕ, zero, suc, ◌+◌, ◌≤◌, ◌≡◌, refl, Bool, false, List, [], ◌∷◌, ◌++◌, length}
 use Rattle.std.proofs.Common.{arith, ap, ◌∙◌, length-append}
 use Rattle.paper_expressions.specs.View.{At, at_first, at_later}
-use Rattle.paper_rows.specs.Laws.Lists.{before}
+use Rattle.paper_rows.proofs.Laws.Lists.{before}
 use Rattle.row_names.specs.Pieces.{each, Piece, piece_first, piece_later}
 use Rattle.plan.specs.Writes.{one_if}
 

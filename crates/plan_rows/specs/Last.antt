@@ -2,7 +2,7 @@
 use Rattle.std.specs.Prelude.{ℕ, zero, suc, ◌<◌, ◌≡◌, refl, Bool, true, false, cond, ◌⊎◌}
 use Rattle.std.proofs.Common.{arith, sym, ap, subst, ◌∙◌, inl, inr}
 use Rattle.std.proofs.Math.Decide.{dec_lt}
-use Rattle.paper_expressions.specs.Laws.Tests.{contra, two}
+use Rattle.paper_expressions.proofs.Laws.Tests.{contra, two}
 
 -- the step k puts v k where c k says so
 module _ (F : ℕ → ℕ) (c : ℕ → Bool) (v : ℕ → ℕ) (step : (k : ℕ) → F (suc k) ≡ cond (c k) (v k) (F k)) where

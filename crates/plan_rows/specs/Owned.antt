@@ -8,7 +8,7 @@ use Rattle.paper_guideline.specs.Structure
 use Structure.{Placed, Attribute, Task, TopLevel, task, tasks}
 use Rattle.paper_guideline.specs.Parts.{sources_of}
 use Rattle.paper_guideline.specs.Parts.{assignments_of}
-use Rattle.paper_rows.specs.Laws.Lists.{before}
+use Rattle.paper_rows.proofs.Laws.Lists.{before}
 use Rattle.guideline_rows.specs.Rows
 use Rows.{Row, generic_row, with_expression, with_name, a_postcondition, attribute_rows, attributes_rows, flatten, kind-of}
 use Rattle.row_names.specs.Pieces.{Piece, at_piece, in_whole}

@@ -5,8 +5,8 @@ use Rattle.std.proofs.Common.{arith, sym, ap, subst, ◌∙◌, inl, inr, eq-eqb
 use Rattle.std.proofs.Math.Decide.{dec_lt}
 use Rattle.paper_expressions.specs.Bytes.{folded, Alike}
 use Rattle.paper_expressions.specs.View.{At, at_first, at_later}
-use Rattle.paper_expressions.specs.Laws.Tests.{contra, two, and_l, and_r, both}
-use Rattle.paper_expressions.specs.Laws.Search.{at_one, sameb, same_reflects, alikeb, alike_reflects, true_reflects, reflects_true}
+use Rattle.paper_expressions.proofs.Laws.Tests.{contra, two, and_l, and_r, both}
+use Rattle.paper_expressions.proofs.Laws.Search.{at_one, sameb, same_reflects, alikeb, alike_reflects, true_reflects, reflects_true}
 use Rattle.parts.specs.ItemLaws.{at_index, index_of}
 use Rattle.paper_tokens.specs.Tokens.{“component”}
 use Rattle.paper_guideline.specs.Structure
@@ -14,9 +14,9 @@ use Structure.{Name, Placed, Attribute, ComponentAttribute, class_word, Task, Da
 use Rattle.paper_guideline.specs.Parts.{sources_of}
 use Rattle.paper_guideline.specs.Parts.{assignments_of}
 use Rattle.paper_guideline.specs.Names.{data_item_twice}
-use Rattle.paper_rows.specs.Laws.Lists.{before, at_most}
-use Rattle.paper_rows.specs.Laws.Lawful.{Lawful}
-use Rattle.paper_rows.specs.Laws.SingleLaws.{task_once, item_once}
+use Rattle.paper_rows.proofs.Laws.Lists.{before, at_most}
+use Rattle.paper_rows.proofs.Laws.Lawful.{Lawful}
+use Rattle.paper_rows.proofs.Laws.SingleLaws.{task_once, item_once}
 use Rattle.guideline_rows.specs.Rows
 use Rows.{Row, component_row, attribute_rows, flatten, kind-of, name_of}
 use Rattle.parts.specs.Part.{Table}

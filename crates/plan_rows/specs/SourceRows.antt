@@ -2,13 +2,13 @@
 use Rattle.std.specs.Prelude.{ℕ, zero, suc, ◌+◌, ◌-◌, ◌≤◌, ◌<◌, ◌≡◌, refl, true, false, List, [], ◌∷◌, map, eqb, length}
 use Rattle.std.proofs.Common.{arith, sym, ap, subst, ◌∙◌, eqb-true, eq-eqb}
 use Rattle.paper_expressions.specs.View.{At, at_first, at_later}
-use Rattle.paper_expressions.specs.Laws.Tests.{contra}
+use Rattle.paper_expressions.proofs.Laws.Tests.{contra}
 use Rattle.paper_tokens.specs.Tokens.{“=”, “source”, “mandatory”}
 use Rattle.paper_guideline.specs.Structure
 use Structure.{Name, Placed, Assignment, ComponentAttribute, SourceAttribute, Attribute, Task, TopLevel, tasks}
 use Rattle.paper_guideline.specs.Parts.{Source, sources_of}
 use Rattle.paper_guideline.specs.Parts.{assigned_in, assignments_of, source_in}
-use Rattle.paper_rows.specs.Laws.Lists.{before}
+use Rattle.paper_rows.proofs.Laws.Lists.{before}
 use Rattle.parts.specs.Part.{Table}
 use Rattle.parts.specs.ItemLaws.{index_of}
 use Rattle.guideline_rows.specs.Rows

@@ -2,13 +2,13 @@
 use Rattle.std.specs.Prelude.{ℕ, suc, ◌+◌, ◌≡◌, refl, Bool, true, false, ◌⊎◌, List, [], ◌∷◌, ◌++◌, map, eqb, length}
 use Rattle.std.proofs.Common.{arith, sym, ap, subst, ◌∙◌, inl, inr, eqb-true}
 use Rattle.paper_expressions.specs.View.{At, at_first, at_later}
-use Rattle.paper_expressions.specs.Laws.Tests.{contra, two}
+use Rattle.paper_expressions.proofs.Laws.Tests.{contra, two}
 use Rattle.paper_tokens.specs.Tokens.{“plan”, “action”, “enquiry”, “data”, “=”, “source”}
 use Rattle.paper_guideline.specs.Structure
 use Structure.{Placed, Assignment, Attribute, Class, class_word, Task, DataItem, TopLevel, task, data_item, tasks, data_items}
 use Rattle.paper_guideline.specs.Parts.{Source, sources_of}
 use Rattle.paper_guideline.specs.Parts.{assigned_in, assignments_of, source_in}
-use Rattle.paper_rows.specs.Laws.Lists.{before}
+use Rattle.paper_rows.proofs.Laws.Lists.{before}
 use Rattle.guideline_rows.specs.Rows
 use Rows.{Row, generic_row, component_row, source_row, placed_rows, an_assignment, attribute_rows, kind-of}
 use Rattle.row_names.specs.Pieces.{each, Piece, piece_first, piece_later}

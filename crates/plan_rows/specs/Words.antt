@@ -2,12 +2,12 @@
 use Rattle.std.specs.Prelude.{ℕ, suc, ◌-◌, ◌<◌, ◌≡◌, refl, true, false, List, eqb}
 use Rattle.std.proofs.Common.{arith, sym, subst, ◌∙◌, eqb-true, eq-eqb}
 use Rattle.paper_expressions.specs.View.{At}
-use Rattle.paper_expressions.specs.Laws.Search.{at_one}
+use Rattle.paper_expressions.proofs.Laws.Search.{at_one}
 use Rattle.paper_tokens.specs.Tokens.{“=”, “precondition”, “wait-condition”, “terminate”, “trigger”, “component”, “source”}
 use Rattle.paper_guideline.specs.Structure
 use Structure.{Name, Outermost, Placed, ComponentAttribute, SourceAttribute, Attribute, TopLevel, tasks}
 use Rattle.paper_rows.specs.Load.{SetTaskAttribute, task_4}
-use Rattle.paper_rows.specs.Laws.Lawful.{Lawful, defined}
+use Rattle.paper_rows.proofs.Laws.Lawful.{Lawful, defined}
 use Rattle.parts.specs.Part.{Table}
 use Rattle.guideline_rows.specs.Rows.{Row, flatten, kind-of}
 use Rattle.row_names.specs.Pieces.{piece_at}

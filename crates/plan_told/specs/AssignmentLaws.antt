@@ -8,8 +8,8 @@ use Rattle.paper_expressions.specs.Expressions.{Expr}
 use Rattle.paper_expressions.specs.Bytes.{folded, Alike}
 use Rattle.paper_expressions.specs.View.{At, at_first, at_later}
 use Rattle.paper_expressions.specs.Within.{Modest}
-use Rattle.paper_expressions.specs.Laws.Parentheses.{bare}
-use Rattle.paper_expressions.specs.Laws.Search.{at_one, alikeb, alike_reflects, Looked, found, missing, looked}
+use Rattle.paper_expressions.proofs.Laws.Parentheses.{bare}
+use Rattle.paper_expressions.proofs.Laws.Search.{at_one, alikeb, alike_reflects, Looked, found, missing, looked}
 use Rattle.paper_guideline.specs.Structure
 use Structure.{Placed, Attribute, Task, DataItem, TopLevel, tasks, data_items}
 use Rattle.paper_guideline.specs.Parts.{assignments}
@@ -20,10 +20,10 @@ use Table.{task, data_item, ◌№◌, assertion_is, text_row, Assigns, Table, C
 use Rattle.paper_rows.specs.Load
 use Load.{SetTaskAttribute, task_4, assigns, Adds, attribute_5_postcondition, data_item_4a}
 use Rattle.paper_guideline.specs.Parts.{assigned_in, assignments_of}
-use Rattle.paper_rows.specs.Laws.Lists.{no_element, at_below, below_at, at_most, at_map, map_at, each, before_at, at_each}
-use Rattle.paper_rows.specs.Laws.Lawful.{Lawful, defined}
-use Rattle.paper_engine.specs.Laws.Kept.{Kept, fixed_postcondition, fixed_name, adds, has}
-use Rattle.paper_engine.specs.Laws.Attached.{assigned_at}
+use Rattle.paper_rows.proofs.Laws.Lists.{no_element, at_below, below_at, at_most, at_map, map_at, each, before_at, at_each}
+use Rattle.paper_rows.proofs.Laws.Lawful.{Lawful, defined}
+use Rattle.paper_engine.proofs.Laws.Kept.{Kept, fixed_postcondition, fixed_name, adds, has}
+use Rattle.paper_engine.proofs.Laws.Attached.{assigned_at}
 use Rattle.parts.specs.Part.{Ends, Within}
 use Rattle.parts.specs.Part as Parts
 use Rattle.operations.specs.Rows.{target_at, assign_at, assigns_at}

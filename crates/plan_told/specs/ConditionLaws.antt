@@ -5,7 +5,7 @@ use Rattle.std.proofs.Math.Option.{none, some}
 use Rattle.paper_expressions.specs.Expressions.{Expr}
 use Rattle.paper_expressions.specs.View.{At, at_first}
 use Rattle.paper_expressions.specs.Within.{Modest}
-use Rattle.paper_expressions.specs.Laws.Parentheses.{bare}
+use Rattle.paper_expressions.proofs.Laws.Parentheses.{bare}
 use Rattle.paper_guideline.specs.Structure
 use Structure.{Outermost, Attribute, TopLevel, tasks}
 use Rattle.paper_guideline.specs.Parts.{Typed, condition, expressions}
@@ -15,12 +15,12 @@ use Table.{task, Component, ◌№◌, Property, RowValue, expression_is, Table}
 use Rattle.paper_rows.specs.Load
 use Load.{SetTaskAttribute, task_4, Adds, attribute_5_precondition, attribute_5_wait_condition, attribute_5_terminate}
 use Rattle.paper_guideline.specs.Parts.{of_attribute}
-use Rattle.paper_rows.specs.Laws.Lists.{at_below, at_map}
-use Rattle.paper_rows.specs.Laws.Lawful.{defined}
-use Rattle.paper_rows.specs.Laws.BareLaws.{bare_typed, bare_expressions}
-use Rattle.paper_rows.specs.Laws.Sized.{bare_sized}
-use Rattle.paper_engine.specs.Laws.Kept.{Kept, Moving, adds}
-use Rattle.paper_engine.specs.Laws.Attached.{attached}
+use Rattle.paper_rows.proofs.Laws.Lists.{at_below, at_map}
+use Rattle.paper_rows.proofs.Laws.Lawful.{defined}
+use Rattle.paper_rows.proofs.Laws.BareLaws.{bare_typed, bare_expressions}
+use Rattle.paper_rows.proofs.Laws.Sized.{bare_sized}
+use Rattle.paper_engine.proofs.Laws.Kept.{Kept, Moving, adds}
+use Rattle.paper_engine.proofs.Laws.Attached.{attached}
 use Rattle.parts.specs.Part.{Ends, Within}
 use Rattle.parts.specs.Part as Parts
 use Rattle.parts.specs.Operands.{size_pos}

@@ -6,7 +6,7 @@ use Rattle.paper_guideline.specs.Structure.{Task}
 use Rattle.paper_guideline.specs.Parts.{Source, sources_of}
 use Rattle.paper_rows.specs.Table.{source, Component, ◌№◌}
 use Rattle.paper_rows.specs.Load.{sources_before, numbered}
-use Rattle.paper_rows.specs.Laws.Lists.{no_element, each, before, indexed}
+use Rattle.paper_rows.proofs.Laws.Lists.{no_element, each, before, indexed}
 
 pub before_less : {A B : Type 0} (f : A → List B) {l : List A} {i j : ℕ} {a x : A} → At l i a → At l j x → i < j → before f i l + length (f a) ≤ before f j l
 before_less f at_first at_first h = absurd (let z : ⊥ = omega arith in z)

@@ -4,7 +4,7 @@ use Rattle.std.proofs.Common.{arith, sym, ap, ◌∙◌}
 use Rattle.std.proofs.Math.Option.{none, some}
 use Rattle.paper_expressions.specs.View.{Item, At}
 use Rattle.paper_expressions.specs.View as Views
-use Rattle.paper_expressions.specs.Laws.Search.{at_one}
+use Rattle.paper_expressions.proofs.Laws.Search.{at_one}
 use Rattle.paper_guideline.specs.Structure
 use Structure.{Task, TopLevel, tasks, data_items}
 use Rattle.paper_guideline.specs.Parts as Parts
@@ -12,10 +12,10 @@ use Rattle.paper_rows.specs.Table
 use Table.{task, ◌№◌, RowValue, text_row, Table, Contains}
 use Rattle.paper_rows.specs.Load
 use Load.{InstantiateTask, component_6, InstantiateComponent, task_5, Adds, attribute_1b}
-use Rattle.paper_rows.specs.Laws.Lists.{at_below, at_indexed}
-use Rattle.paper_rows.specs.Laws.Lawful.{Lawful}
-use Rattle.paper_rows.specs.Laws.Seen.{text_f}
-use Rattle.paper_engine.specs.Laws.Kept.{Kept, fixed_name, adds, has, item_view, task_view, view_f}
+use Rattle.paper_rows.proofs.Laws.Lists.{at_below, at_indexed}
+use Rattle.paper_rows.proofs.Laws.Lawful.{Lawful}
+use Rattle.paper_rows.proofs.Laws.Seen.{text_f}
+use Rattle.paper_engine.proofs.Laws.Kept.{Kept, fixed_name, adds, has, item_view, task_view, view_f}
 use Rattle.parts.specs.Codes.{declared_code}
 use Rattle.parts.specs.Texts.{text_at_fn}
 use Rattle.parts.specs.Part as Part

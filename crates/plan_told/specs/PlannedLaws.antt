@@ -5,9 +5,9 @@ use Rattle.paper_expressions.specs.View.{At}
 use Rattle.paper_guideline.specs.Structure
 use Structure.{Task, TopLevel, tasks, data_items}
 use Rattle.paper_rows.specs.Table.{Table}
-use Rattle.paper_rows.specs.Laws.Lists.{below_at}
-use Rattle.paper_rows.specs.Laws.Lawful.{Lawful}
-use Rattle.paper_engine.specs.Laws.Kept.{Kept}
+use Rattle.paper_rows.proofs.Laws.Lists.{below_at}
+use Rattle.paper_rows.proofs.Laws.Lawful.{Lawful}
+use Rattle.paper_engine.proofs.Laws.Kept.{Kept}
 use Rattle.parts.specs.Part as Parts
 use Rattle.waits.specs.Worked.{Worked}
 use Rattle.review.specs.Changes.{tasks_in, Numbers}

@@ -4,7 +4,7 @@ use Rattle.std.proofs.Common.{arith}
 use Rattle.std.proofs.Math.Option.{Option, none, some}
 use Rattle.paper_expressions.specs.Expressions.{Expr}
 use Rattle.paper_expressions.specs.View.{At}
-use Rattle.paper_expressions.specs.Laws.Search.{no_clash}
+use Rattle.paper_expressions.proofs.Laws.Search.{no_clash}
 use Rattle.paper_guideline.specs.Structure
 use Structure.{Task, TopLevel, tasks}
 use Rattle.paper_guideline.specs.Parts as Parts
@@ -13,9 +13,9 @@ use Rattle.paper_rows.specs.Table
 use Table.{Component, Property, RowValue, expression_is, text_row, truth_row}
 use Rattle.paper_rows.specs.Load
 use Load.{InstantiateComponent, task_5, Adds}
-use Rattle.paper_rows.specs.Laws.Lawful.{Lawful, defined}
-use Rattle.paper_rows.specs.Laws.Lists.{each_at}
-use Rattle.paper_engine.specs.Laws.Kept.{Kept, Moving, has}
+use Rattle.paper_rows.proofs.Laws.Lawful.{Lawful, defined}
+use Rattle.paper_rows.proofs.Laws.Lists.{each_at}
+use Rattle.paper_engine.proofs.Laws.Kept.{Kept, Moving, has}
 use Rattle.planned.specs.Planned.{answered}
 use Rattle.plan_told.specs.Told.{answer}
 

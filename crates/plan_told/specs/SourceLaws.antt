@@ -3,7 +3,7 @@ use Rattle.std.specs.Prelude.{ℕ, ◌+◌, ◌-◌, ◌<◌, ◌≤◌, ◌≡�
 use Rattle.std.proofs.Common.{arith, sym, ap, subst, ◌∙◌, eqb-true, eq-eqb}
 use Rattle.std.proofs.Math.Option.{Option, some}
 use Rattle.paper_expressions.specs.View.{At}
-use Rattle.paper_expressions.specs.Laws.Search.{at_one, sameb, same_reflects, Looked, found, missing, looked}
+use Rattle.paper_expressions.proofs.Laws.Search.{at_one, sameb, same_reflects, Looked, found, missing, looked}
 use Rattle.paper_guideline.specs.Structure
 use Structure.{Task, DataItem, TopLevel, tasks, data_items}
 use Rattle.paper_guideline.specs.Parts.{Source, sources_of, sources}
@@ -12,10 +12,10 @@ use Rattle.paper_rows.specs.Table
 use Table.{task, data_item, source, Component, ◌№◌, a_source, RowValue, class_is, component_is, components_are, truth_row, Table, Contains}
 use Rattle.paper_rows.specs.Load
 use Load.{InstantiateTask, InstantiateSource, attribute_3, sources_before, numbered, Adds, source_3, source_5, source_7, source_8}
-use Rattle.paper_rows.specs.Laws.Lists.{at_below, below_at}
-use Rattle.paper_rows.specs.Laws.Lawful.{Lawful, defined}
-use Rattle.paper_rows.specs.Laws.SingleLaws.{source_at}
-use Rattle.paper_engine.specs.Laws.Kept.{Kept, fixed_class, fixed_sources, adds, has}
+use Rattle.paper_rows.proofs.Laws.Lists.{at_below, below_at}
+use Rattle.paper_rows.proofs.Laws.Lawful.{Lawful, defined}
+use Rattle.paper_rows.proofs.Laws.SingleLaws.{source_at}
+use Rattle.paper_engine.proofs.Laws.Kept.{Kept, fixed_class, fixed_sources, adds, has}
 use Rattle.waits.specs.Booleans.{Tests}
 use Rattle.waits.specs.Twins.{first_at, count_at_fn, item_at, mandatory_f}
 use Rattle.waits.specs.Worked.{Sources}

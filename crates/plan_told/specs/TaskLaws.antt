@@ -3,7 +3,7 @@ use Rattle.std.specs.Prelude.{ℕ, ◌+◌, ◌<◌, ◌≤◌, ◌≡◌, refl,
 use Rattle.std.proofs.Common.{arith, sym, ap, subst, ◌∙◌, inl, inr, eqb-true, eq-eqb}
 use Rattle.std.proofs.Math.Option.{none, some}
 use Rattle.paper_expressions.specs.View.{At}
-use Rattle.paper_expressions.specs.Laws.Search.{no_clash, at_one}
+use Rattle.paper_expressions.proofs.Laws.Search.{no_clash, at_one}
 use Rattle.paper_guideline.specs.Structure
 use Structure.{Name, Task, TopLevel, tasks}
 use Rattle.paper_guideline.specs.Parts as Parts
@@ -11,10 +11,10 @@ use Rattle.paper_rows.specs.Table
 use Table.{task, Component, ◌№◌, Class, an_action, a_decision, RowValue, class_is, component_is, text_row, truth_row, Table, Contains, TaskId}
 use Rattle.paper_rows.specs.Load
 use Load.{InstantiateComponent, SetTaskAttribute, SetComponentAttribute, class_constant, ClassRow, Adds, task_2, component_3a, component_3b, component_attribute_5, attribute_1c, attribute_5_trigger}
-use Rattle.paper_rows.specs.Laws.Lists.{at_below, below_at}
-use Rattle.paper_rows.specs.Laws.Lawful.{Lawful, defined}
-use Rattle.paper_engine.specs.Laws.Kept.{Kept, fixed_class, fixed_parent, adds, has}
-use Rattle.paper_engine.specs.Laws.Chains.{task_below, below_task}
+use Rattle.paper_rows.proofs.Laws.Lists.{at_below, below_at}
+use Rattle.paper_rows.proofs.Laws.Lawful.{Lawful, defined}
+use Rattle.paper_engine.proofs.Laws.Kept.{Kept, fixed_class, fixed_parent, adds, has}
+use Rattle.paper_engine.proofs.Laws.Chains.{task_below, below_task}
 use Rattle.waits.specs.Booleans.{Tests}
 use Rattle.waits.specs.Twins.{parent_at, trigger_f, terminal_f, confirmatory_f, class_f}
 use Rattle.waits.specs.Worked.{Parent, HasTrigger}

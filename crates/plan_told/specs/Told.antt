@@ -3,15 +3,15 @@
 use Rattle.std.specs.Prelude.{ℕ, ◌+◌, ◌<◌, ◌≤◌, ◌≡◌, Bool, true, false, List, get_or, length}
 use Rattle.paper_expressions.specs.Bytes.{Alike}
 use Rattle.paper_expressions.specs.View.{At}
-use Rattle.paper_expressions.specs.Laws.Parentheses.{bare}
+use Rattle.paper_expressions.proofs.Laws.Parentheses.{bare}
 use Rattle.paper_guideline.specs.Structure
 use Structure.{Name, Outermost, Assignment, Attribute, schedule_constraint, Task, DataItem, TopLevel, tasks, data_items}
 use Rattle.paper_guideline.specs.Parts.{Typed, expressions, assignments, Component, Source, sources, sources_of}
 use Rattle.paper_guideline.specs.Limits.{depth_limit}
 use Rattle.paper_rows.specs.Load.{InstantiateComponent, SetTaskAttribute, SetComponentAttribute, InstantiateSource, InstantiateDataItem, sources_before}
 use Rattle.paper_guideline.specs.Parts.{assignments_of}
-use Rattle.paper_rows.specs.Laws.Lists.{before}
-use Rattle.paper_rows.specs.Laws.Sized.{Sized}
+use Rattle.paper_rows.proofs.Laws.Lists.{before}
+use Rattle.paper_rows.proofs.Laws.Sized.{Sized}
 use Rattle.parts.specs.Codes.{declared_code}
 use Rattle.parts.specs.Texts.{text_at_fn}
 use Rattle.parts.specs.Part.{Ends, Within}

@@ -9,11 +9,11 @@ use Rattle.paper_rows.specs.Table
 use Table.{task, Component, ◌№◌, components_are, Table, Contains}
 use Rattle.paper_rows.specs.Load
 use Load.{InstantiateComponent, task_5, Antecedents, antecedents_none, antecedents_more, antecedents_other, Adds, component_attribute_1}
-use Rattle.paper_rows.specs.Laws.Lists.{no_element, at_below}
-use Rattle.paper_rows.specs.Laws.Lawful.{Lawful, defined}
-use Rattle.paper_rows.specs.Laws.SingleLaws.{task_once}
-use Rattle.paper_rows.specs.Laws.InitialLaws.{its_antecedents}
-use Rattle.paper_engine.specs.Laws.Kept.{Kept, adds, has}
+use Rattle.paper_rows.proofs.Laws.Lists.{no_element, at_below}
+use Rattle.paper_rows.proofs.Laws.Lawful.{Lawful, defined}
+use Rattle.paper_rows.proofs.Laws.SingleLaws.{task_once}
+use Rattle.paper_rows.proofs.Laws.InitialLaws.{its_antecedents}
+use Rattle.paper_engine.proofs.Laws.Kept.{Kept, adds, has}
 use Rattle.waits.specs.Twins.{marked, waiting}
 use Rattle.waits.specs.Worked.{Waits}
 use Rattle.plan_told.specs.Told.{WaitsTold}

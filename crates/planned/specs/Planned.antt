@@ -4,12 +4,12 @@ use Rattle.std.proofs.Math.Option.{Option, none, some}
 use Rattle.paper_expressions.specs.Bytes.{Alike}
 use Rattle.paper_expressions.specs.View.{At}
 use Rattle.paper_expressions.specs.View as Views
-use Rattle.paper_expressions.specs.Laws.Parentheses.{bare}
+use Rattle.paper_expressions.proofs.Laws.Parentheses.{bare}
 use Rattle.paper_expressions.specs.Within.{Modest}
 use Rattle.paper_guideline.specs.Structure.{TopLevel}
 use Rattle.paper_guideline.specs.Limits.{depth_limit}
 use Rattle.paper_rows.specs.Table.{task, data_item, source, ◌№◌, a_source, class, precondition, wait_condition, trigger, terminate_condition, postcondition, confirmatory, terminal, name, mandatory, RowValue, class_is, truth_row, text_row, assertion_is, Assigns, Table, Contains}
-use Rattle.paper_engine.specs.Laws.Kept.{Kept, view_f}
+use Rattle.paper_engine.proofs.Laws.Kept.{Kept, view_f}
 use Rattle.parts.specs.Part.{Ends, Within}
 use Rattle.parts.specs.Part as Parts
 use Rattle.parts.specs.Items.{Items}

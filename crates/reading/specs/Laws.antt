@@ -3,11 +3,11 @@ use Rattle.std.specs.Prelude.{ℕ, ◌≡◌, refl, List, length, take, replicat
 use Rattle.std.proofs.Common.{sym, ap, ap₂, subst, ◌∙◌}
 use Rattle.paper_guideline.specs.Limits.{token_limit}
 use Rattle.paper_tokens.specs.Lexical.{Token}
-use Rattle.paper_tokens.specs.Laws.LexicalLaws as LexicalLaws
+use Rattle.paper_tokens.proofs.Laws.LexicalLaws as LexicalLaws
 use Rattle.paper_guideline.specs.Structure.{TopLevel, Structure}
-use Rattle.paper_guideline.specs.Laws.StructureLaws.{one_structure}
+use Rattle.paper_guideline.proofs.Laws.StructureLaws.{one_structure}
 use Rattle.paper_guideline.specs.Refusals as Refusals
-use Rattle.paper_guideline.specs.Laws.RefusalLaws.{one_answer}
+use Rattle.paper_guideline.proofs.Laws.RefusalLaws.{one_answer}
 use Rattle.parts.specs.Part.{Table, table}
 use Rattle.blank.specs.Zeros.{zeros_long, zeros_again}
 use Rattle.columns.specs.Columns.{Lexed}

@@ -5,9 +5,9 @@ use Rattle.std.proofs.Math.Option.{Option}
 use Rattle.paper_expressions.specs.Values.{Value}
 use Rattle.paper_guideline.specs.Structure.{TopLevel}
 use Rattle.paper_rows.specs.Table.{task, data_item, ◌№◌, Property, value, requested, Table}
-use Rattle.paper_rows.specs.Laws.Seen.{value_f}
+use Rattle.paper_rows.proofs.Laws.Seen.{value_f}
 use Rattle.paper_calls.specs.Calls.{time_limit}
-use Rattle.paper_calls.specs.Laws.CallLaws.{GoodTable}
+use Rattle.paper_calls.proofs.Laws.CallLaws.{GoodTable}
 use Rattle.state.specs.Cell.{Cell}
 use Rattle.state.specs.Items.{holds_as}
 use Rattle.state.specs.Layout.{Rows, TaskColumn}

@@ -8,8 +8,8 @@ use Rattle.paper_guideline.specs.Structure.{TopLevel}
 use Rattle.paper_rows.specs.Table.{Property, RowValue, Table}
 use Rattle.paper_calls.specs.Calls as Calls
 use Calls.{State, empty, loaded, Call, Calls, refuses}
-use Rattle.paper_calls.specs.Laws.CallLaws.{one_call}
-use Rattle.paper_calls.specs.Laws.TotalLaws.{NotLoad, is_run, is_time, is_confirm, is_add, is_trigger, is_read}
+use Rattle.paper_calls.proofs.Laws.CallLaws.{one_call}
+use Rattle.paper_calls.proofs.Laws.TotalLaws.{NotLoad, is_run, is_time, is_confirm, is_add, is_trigger, is_read}
 use Rattle.state.specs.Cell.{Cell}
 use Rattle.state.specs.Items as Items
 use Rattle.state.specs.Layout.{TaskColumn, state_column, trigger_column, confirmed_column, count_column, cycles_column, start_column, in_progress_column, discarded_column, completed_column, procedure_column}

@@ -3,12 +3,12 @@ use Rattle.std.specs.Prelude.{ℕ, ◌+◌, ◌*◌, ◌<◌, ◌≤◌, ◌≡�
 use Rattle.std.proofs.Common.{arith, sym, ap, subst, ◌∙◌, inl, inr, length-set, get_or-set_same, get_or-set_other, eq-eqb, ne_eqb, eqb-true}
 use Rattle.std.proofs.Math.Decide.{dec_lt, ℕ_discrete}
 use Rattle.std.proofs.Math.Option.{Option, none, some}
-use Rattle.paper_expressions.specs.Laws.Search.{no_clash}
+use Rattle.paper_expressions.proofs.Laws.Search.{no_clash}
 use Rattle.paper_guideline.specs.Structure.{TopLevel}
 use Rattle.paper_rows.specs.Table.{task, data_item, Component, ◌№◌, Property, state, trigger_active, confirmed, cycle_count, nbr_cycles_value, start_at, in_progress_time, discarded_time, completed_time, actual_procedure, value, requested, RowValue, truth_row, Table}
-use Rattle.paper_rows.specs.Laws.Seen.{value_f}
+use Rattle.paper_rows.proofs.Laws.Seen.{value_f}
 use Rattle.paper_calls.specs.Calls.{Sets, Replaced, replaced, kept, Replaces}
-use Rattle.paper_calls.specs.Laws.CallLaws.{Mild, sets_good}
+use Rattle.paper_calls.proofs.Laws.CallLaws.{Mild, sets_good}
 use Rattle.state.specs.Cell.{Cell, plain_truth}
 use Rattle.state.specs.Layout.{Rows, TaskColumn, state_column, trigger_column, confirmed_column, count_column, cycles_column, start_column, in_progress_column, discarded_column, completed_column, procedure_column}
 use Rattle.blocks.specs.Blocks.{Outside}

@@ -7,7 +7,7 @@ use Rattle.paper_expressions.specs.Values.{dormant, in_progress, discarded, comp
 use Rattle.paper_expressions.specs.Operators.{plus, minus, times, is>, is<, is>=, is<=, is=, is!=, max, min, ◌⇒◌, allowed}
 use Rattle.paper_expressions.specs.Operators.{Op, arithmetic, divide, compare, and, or, includes, oneof, if, negate, isknown, not, count, sum, extreme, nth, is-in, no_such}
 use Rattle.paper_expressions.specs.Expressions.{Among, First, Applied, rule_10a, rule_10b}
-use Rattle.paper_expressions.specs.Laws.Typing.{no_applied}
+use Rattle.paper_expressions.proofs.Laws.Typing.{no_applied}
 use Rattle.parts.specs.Codes.{code}
 use Rattle.resolution.specs.Letters.{letter_some, Outcome, is, none}
 use Rattle.resolution.specs.Resolution.{slots, entries, plain, or_else, resolve_of, exact_entry, first_entry, one_entry, too_many, too_many_first}

@@ -4,7 +4,7 @@ use Rattle.std.specs.Prelude.{◌≡◌, refl, Bool, true, false, cond, ℕ, eqb
 use Rattle.std.proofs.Common.{sym, ap, subst, ◌∙◌, eqb-true}
 use Rattle.std.proofs.lemmas.Bool.{eqb-false}
 use Rattle.paper_expressions.specs.Types.{Ty, Text, Integer, Real, SetofText, SetofReal, SetofInteger, SetofAnything, TruthValue}
-use Rattle.paper_expressions.specs.Laws.Search.{Reflects, of_yes, of_no}
+use Rattle.paper_expressions.proofs.Laws.Search.{Reflects, of_yes, of_no}
 
 abbrev pub letter : Ty → ℕ
 letter Text = 84  -- T

@@ -5,8 +5,8 @@ use Rattle.std.proofs.Common.{sym, ap, subst, not-suc-le-zero, arith, leb-true}
 use Rattle.paper_expressions.specs.Types.{Ty, Text, Integer, Real, SetofText, SetofReal, SetofInteger, SetofAnything, TruthValue, Promotes, promotion_1, promotion_2, promotion_3a, promotion_3b, promotion_3c}
 use Rattle.paper_expressions.specs.Operators.{Allowed, ◌⇒◌}
 use Rattle.paper_expressions.specs.Expressions.{Among, here, there, Reaches, reaches_none, reaches_same, reaches_by, First, first, next}
-use Rattle.paper_expressions.specs.Laws.Typing.{from_integer, from_integers, no_first, among_cases}
-use Rattle.paper_expressions.specs.Laws.Search.{Reflects, of_yes, of_no, reflects_iff, reflects_true, sameb, same_reflects, no_clash}
+use Rattle.paper_expressions.proofs.Laws.Typing.{from_integer, from_integers, no_first, among_cases}
+use Rattle.paper_expressions.proofs.Laws.Search.{Reflects, of_yes, of_no, reflects_iff, reflects_true, sameb, same_reflects, no_clash}
 use Rattle.resolution.specs.Letters.{letter, Outcome, is, none, letter_reflects}
 
 -- ---- what the code computes

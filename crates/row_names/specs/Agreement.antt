@@ -5,11 +5,11 @@ use Rattle.std.proofs.Common.{sym, ap, subst, ◌∙◌, inl, inr, ⊎_elim, ari
 use Rattle.std.proofs.Math.Option.{Option, none, some}
 use Rattle.std.proofs.Math.Decide.{dec_lt}
 use Rattle.paper_expressions.specs.View.{At, at_first, at_later}
-use Rattle.paper_expressions.specs.Laws.Tests.{contra, two, every, and_l, and_r, or_cases, or_l, or_r}
-use Rattle.paper_expressions.specs.Laws.Search.{no_clash, at_one}
+use Rattle.paper_expressions.proofs.Laws.Tests.{contra, two, every, and_l, and_r, or_cases, or_l, or_r}
+use Rattle.paper_expressions.proofs.Laws.Search.{no_clash, at_one}
 use Rattle.parts.specs.ItemLaws.{at_index, index_of}
 use Rattle.paper_tokens.specs.Tokens.{“data”, “=”, “component”, “source”}
-use Rattle.paper_grammar.specs.Laws.Ll.{is_in}
+use Rattle.paper_grammar.proofs.Laws.Ll.{is_in}
 use Rattle.paper_guideline.specs.Structure.{Name, Task, DataItem, TopLevel, task, data_item, tasks, data_items}
 use Rattle.guideline_rows.specs.Rows
 use Rows.{Row, flatten, kind-of, name_of, attributes_rows, generic_row, placed_rows}

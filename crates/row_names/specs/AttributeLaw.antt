@@ -4,12 +4,12 @@ use Rattle.std.specs.Prelude.{ℕ, zero, suc, ◌+◌, ◌-◌, ◌≤◌, ◌<�
 use Rattle.std.proofs.Common.{sym, ap, subst, ◌∙◌, inl, inr, ⊎_elim, arith}
 use Rattle.std.proofs.Math.Decide.{dec_lt}
 use Rattle.paper_expressions.specs.View.{At, at_first, at_later}
-use Rattle.paper_expressions.specs.Laws.Tests.{contra, two, not_both}
-use Rattle.paper_expressions.specs.Laws.Search.{at_one}
+use Rattle.paper_expressions.proofs.Laws.Tests.{contra, two, not_both}
+use Rattle.paper_expressions.proofs.Laws.Search.{at_one}
 use Rattle.parts.specs.ItemLaws.{at_index, index_of}
 use Rattle.paper_tokens.specs.Tokens
 use Tokens.{“plan”, “action”, “enquiry”, “data”, “=”, “caption”, “description”, “component”, “source”, “schedule-constraint”, “terminal”, “mandatory”}
-use Rattle.paper_grammar.specs.Laws.Ll.{is_in}
+use Rattle.paper_grammar.proofs.Laws.Ll.{is_in}
 use Rattle.paper_guideline.specs.Structure
 use Structure.{Name, Placed, Assignment, ComponentAttribute, schedule_constraint, terminal, Generic, caption, description, SourceAttribute, source_generic, mandatory}
 use Structure.{Attribute, generic, precondition, wait_condition, terminate, postcondition, trigger, component, source, Task, DataItem, TopLevel, task, data_item, tasks, data_items}

@@ -5,8 +5,8 @@ use Rattle.std.proofs.Common.{sym, ap, subst, ◌∙◌, inl, inr, ⊎_elim, ari
 use Rattle.std.proofs.Math.Option.{Option, none, some}
 use Rattle.std.proofs.Math.Decide.{dec_lt}
 use Rattle.paper_expressions.specs.View.{At, at_first, at_later}
-use Rattle.paper_expressions.specs.Laws.Tests.{contra, two}
-use Rattle.paper_expressions.specs.Laws.Search.{no_clash, at_one}
+use Rattle.paper_expressions.proofs.Laws.Tests.{contra, two}
+use Rattle.paper_expressions.proofs.Laws.Search.{no_clash, at_one}
 use Rattle.parts.specs.ItemLaws.{at_index, index_of}
 use Rattle.paper_tokens.specs.Tokens
 use Tokens.{“data”, “=”, “caption”, “description”, “precondition”, “wait-condition”, “postcondition”, “trigger”, “terminate”, “component”, “source”, “schedule-constraint”, “terminal”, “mandatory”}

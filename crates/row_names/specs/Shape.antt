@@ -3,7 +3,7 @@
 use Rattle.std.specs.Prelude.{ℕ, zero, suc, ◌<◌, ◌≡◌, refl, Bool, true, false, ◌⊎◌, List, [], ◌∷◌, ◌++◌, map, length}
 use Rattle.std.proofs.Common.{sym, ap, subst, ◌∙◌, inl, inr, ⊎_elim, arith}
 use Rattle.paper_expressions.specs.View.{At, at_first, at_later}
-use Rattle.paper_expressions.specs.Laws.Tests.{contra}
+use Rattle.paper_expressions.proofs.Laws.Tests.{contra}
 use Rattle.parts.specs.ItemLaws.{index_of}
 use Rattle.paper_tokens.specs.Lexical.{Token}
 use Rattle.paper_guideline.specs.Structure

@@ -5,7 +5,7 @@ use Rattle.paper_expressions.specs.Bytes.{Alike}
 use Rattle.paper_tokens.specs.Tokens
 use Tokens.{“plan”, “action”, “enquiry”, “data”, “=”, “caption”, “description”, “precondition”, “wait-condition”, “postcondition”, “trigger”, “terminate”, “component”, “source”}
 use Tokens.{“schedule-constraint”, “terminal”, “mandatory”}
-use Rattle.paper_grammar.specs.Laws.Ll.{is_in}
+use Rattle.paper_grammar.proofs.Laws.Ll.{is_in}
 
 -- what is read of each row: its kind, the place of its word, its name and the place of its name
 pub record Sheet : Type 0 where

@@ -2,7 +2,7 @@
 -- law for what stands behind them.
 use Rattle.std.specs.Prelude.{ℕ, zero, suc, ◌≤◌, ◌<◌, ◌≡◌, refl, Bool, true, false, cond, ◌&&◌, eqb, ltb}
 use Rattle.std.proofs.Common.{arith, not-suc-le-zero, sym, subst, ⊎_elim, eqb→eq, eqb-true, ltb-true, ltb-false, ne_eqb}
-use Rattle.paper_expressions.specs.Laws.Tests.{two, and_l, and_r}
+use Rattle.paper_expressions.proofs.Laws.Tests.{two, and_l, and_r}
 use Rattle.paper_calls.specs.Numbers.{state_number, class_number, type_number}
 use Rattle.state.specs.Cell.{state_of}
 use Rattle.row_shown.specs.Shown.{class_of, type_of, kind-of}

@@ -3,7 +3,7 @@ use Rattle.std.specs.Prelude.{ℕ, ◌+◌, ◌*◌, ◌≤◌, ◌≡◌, refl,
 use Rattle.std.proofs.Common.{sym, subst, ◌∙◌}
 use Rattle.std.proofs.Math.Option.{Option, none, some}
 use Rattle.paper_expressions.specs.Values.{Value}
-use Rattle.paper_expressions.specs.Laws.Search.{no_clash}
+use Rattle.paper_expressions.proofs.Laws.Search.{no_clash}
 use Rattle.paper_rows.specs.Table.{Kind, task, data_item, candidate, argument, parameter, source, warning_condition, Component, ◌№◌}
 use Rattle.paper_calls.specs.Calls as Calls
 use Calls.{no_row, there, shows_value, shows_state, shows_class, shows_type, shows_time, shows_component, Reply, done, ran, row, refuses}

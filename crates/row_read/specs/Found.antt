@@ -7,9 +7,9 @@ use Rattle.paper_guideline.specs.Structure.{TopLevel, DataItem, data_items}
 use Rattle.paper_rows.specs.Table.{Kind, task, data_item, candidate, argument, parameter, source, warning_condition, ◌№◌, Property, properties, RowValue, Table}
 use Rattle.paper_rows.specs.Load as Load
 use Load.{Adds, InstantiateSource}
-use Rattle.paper_rows.specs.Laws.Lists.{indexed_at, at_below}
-use Rattle.paper_engine.specs.Laws.Kept.{There, task_there, item_there, source_there, adds, has, fixed_class, item_view, task_id}
-use Rattle.paper_engine.specs.Laws.RowFacts.{every_there}
+use Rattle.paper_rows.proofs.Laws.Lists.{indexed_at, at_below}
+use Rattle.paper_engine.proofs.Laws.Kept.{There, task_there, item_there, source_there, adds, has, fixed_class, item_view, task_id}
+use Rattle.paper_engine.proofs.Laws.RowFacts.{every_there}
 use Rattle.truths.specs.Part.{part_of}
 use Rattle.review.specs.Changes.{tasks_in}
 use Rattle.planned.specs.Planned.{sources_in}

@@ -2,14 +2,14 @@
 use Rattle.std.specs.Prelude.{ℕ, ◌<◌, ◌≡◌, refl, Bool, true, false, List, get_or, length}
 use Rattle.std.proofs.Common.{sym, ap, subst, ◌∙◌, eq-eqb}
 use Rattle.std.proofs.Math.Option.{Option, none, some}
-use Rattle.paper_expressions.specs.Laws.Search.{no_clash, at_one}
+use Rattle.paper_expressions.proofs.Laws.Search.{no_clash, at_one}
 use Rattle.paper_expressions.specs.View.{At, at_first, at_later}
 use Rattle.paper_guideline.specs.Structure.{TopLevel}
 use Rattle.paper_rows.specs.Table.{Kind, kinds, task, data_item, source, ◌№◌, Property, properties, RowValue, Table}
-use Rattle.paper_rows.specs.Laws.Lists.{at_below, below_at}
+use Rattle.paper_rows.proofs.Laws.Lists.{at_below, below_at}
 use Rattle.paper_calls.specs.Calls as Calls
 use Calls.{State, loaded, RowAt, Reads, a_row, without_row, Calls, read_row, read_7, read_done, row, refuses}
-use Rattle.paper_calls.specs.Laws.TotalLaws.{is_read}
+use Rattle.paper_calls.proofs.Laws.TotalLaws.{is_read}
 use Rattle.holding.specs.Holding.{Holds}
 use Rattle.replying.specs.Replying.{Holding, holds_none, holds_loaded, Called, Replies}
 use Rattle.replying.specs.Ready.{loaded_f, not_empty, nothing_moves}

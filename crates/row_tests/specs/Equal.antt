@@ -1,7 +1,7 @@
 -- Two texts, byte by byte: what the first bytes settle, and what they leave to the rest.
 use Rattle.std.specs.Prelude.{ℕ, zero, suc, ◌+◌, ◌-◌, ◌≤◌, ◌<◌, ◌≡◌, refl, Bool, true, false, ◌&&◌, List, eqb, get_or}
 use Rattle.std.proofs.Common.{ap, not-suc-le-zero, add-one, arith, eq-eqb, ne_eqb}
-use Rattle.paper_expressions.specs.Laws.Search.{sameb}
+use Rattle.paper_expressions.proofs.Laws.Search.{sameb}
 use Rattle.parts.specs.Texts.{cells}
 
 pub same_step : (b : List ℕ) (x y m : ℕ) → 0 < m → get_or b x 0 ≡ get_or b y 0 → sameb (cells b x m) (cells b y m) ≡ sameb (cells b (x + 1) (m - 1)) (cells b (y + 1) (m - 1))

@@ -2,8 +2,8 @@
 use Rattle.std.specs.Prelude.{ℕ, zero, suc, ◌+◌, ◌-◌, ◌≤◌, ◌<◌, ◌≡◌, refl, Bool, true, false, List}
 use Rattle.std.proofs.Common.{sym, ap, subst, ◌∙◌, arith, eq-eqb, ne_eqb}
 use Rattle.std.proofs.Math.Decide.{dec_lt}
-use Rattle.paper_expressions.specs.Laws.Tests.{contra}
-use Rattle.paper_expressions.specs.Laws.Search.{Reflects, of_yes, of_no, sameb}
+use Rattle.paper_expressions.proofs.Laws.Tests.{contra}
+use Rattle.paper_expressions.proofs.Laws.Search.{Reflects, of_yes, of_no, sameb}
 use Rattle.paper_tokens.specs.Tokens.{“component”}
 use Rattle.row_names.specs.Sheet.{head_kind, parts_from}
 use Rattle.parts.specs.Texts.{text_at_fn}

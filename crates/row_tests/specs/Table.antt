@@ -1,6 +1,6 @@
 -- The sheet of a row table: of each row its kind, its word's place, its name's text and place. Definitions only.
 use Rattle.std.specs.Prelude.{ℕ, ◌+◌, ◌*◌, Bool, cond, ◌&&◌, List, eqb, ltb, get_or}
-use Rattle.paper_expressions.specs.Laws.Search.{sameb}
+use Rattle.paper_expressions.proofs.Laws.Search.{sameb}
 use Rattle.paper_tokens.specs.Tokens.{“component”}
 use Rattle.parts.specs.Texts.{text_at_fn}
 use Rattle.row_names.specs.Sheet.{Sheet}

@@ -1,6 +1,6 @@
 // Whether two texts are equal, byte by byte.
 ghost use Rattle.std.specs.Prelude.{◌≡◌};
-ghost use Rattle.paper_expressions.specs.Laws.Search.{sameb};
+ghost use Rattle.paper_expressions.proofs.Laws.Search.{sameb};
 ghost use Rattle.parts.specs.Texts.{text_at_fn};
 
 use parts::{HANDLE, byte};

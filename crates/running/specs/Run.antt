@@ -1,13 +1,13 @@
 -- A run, turn by turn: from the state that the tables hold the published run, its report, and the state that it comes to. By what is left to run after each cycle.
 use Rattle.std.specs.Prelude.{ℕ, suc, ◌+◌, ◌*◌, ◌<◌, ◌≤◌, ◌≡◌, refl, Bool, true, false, List, get_or, length}
 use Rattle.std.proofs.Common.{arith, sym, ap, subst, ◌∙◌}
-use Rattle.paper_expressions.specs.Laws.Search.{no_clash}
+use Rattle.paper_expressions.proofs.Laws.Search.{no_clash}
 use Rattle.paper_guideline.specs.Structure.{TopLevel}
 use Rattle.paper_rows.specs.Table.{Table}
 use Rattle.paper_engine.specs.Operations.{Changes}
 use Rattle.paper_engine.specs.Cycle as Cycle
 use Cycle.{Ending, quiet, bounded, exception, ends, State, SomeRow, EnactChanges, Runs, stop_quiet, stop_bounded, stop_exception, repeat}
-use Rattle.paper_engine.specs.Laws.EnactLaws.{cycle}
+use Rattle.paper_engine.proofs.Laws.EnactLaws.{cycle}
 use Rattle.state.specs.Cell.{bit}
 use Rattle.holding.specs.Holding.{Holds}
 use Rattle.holding.specs.Shown.{kept}

@@ -6,7 +6,7 @@ use mathlib.Core.List.{List, [], ◌∷◌}
 use Prim.Native.Nat.{ℕ, zero, suc, ◌+◌, ◌-◌, ◌≤◌, ◌<◌}
 use native.Mathlib.Omega.{arith}
 use Rattle.paper_expressions.specs.Bytes.{fold}
-use Rattle.paper_expressions.specs.Laws.Search.{alikeb}
+use Rattle.paper_expressions.proofs.Laws.Search.{alikeb}
 use Rattle.parts.specs.Texts.{cells, text_at_fn}
 use Rattle.season_answer.specs.Columns.{first_from, is_label, by_number, first_with, may_stand, columns_from, all_may}
 

@@ -8,7 +8,7 @@ use Rattle.paper_guideline.specs.Structure.{TopLevel}
 use Rattle.paper_guideline.specs.Line.{scalar_written, more_written, value_written}
 use Rattle.paper_rows.specs.Table as Rows
 use Rows.{data_item, ◌№◌, Table}
-use Rattle.paper_rows.specs.Laws.Seen.{value_f}
+use Rattle.paper_rows.proofs.Laws.Seen.{value_f}
 use Rattle.parts.specs.Texts.{literal}
 use Rattle.values.specs.declared.scalar.Scalar.{Scalar}
 use Rattle.values.specs.declared.scalar.Scalar.TheVariants.{Unknown, Truth, Int, Real, Text}

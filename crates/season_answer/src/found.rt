@@ -1,6 +1,6 @@
 // The data item that a column's name finds, A to Z folded, as an expression finds it (9.5).
 ghost use Rattle.std.specs.Prelude.{◌≡◌, ◌≤◌};
-ghost use Rattle.paper_expressions.specs.Laws.Search.{alikeb};
+ghost use Rattle.paper_expressions.proofs.Laws.Search.{alikeb};
 ghost use Rattle.parts.specs.Texts.{text_at_fn};
 ghost use Rattle.season_answer.specs.Columns as columns;
 

@@ -11,10 +11,10 @@ use Rattle.paper_expressions.specs.Values as paper
 use Rattle.paper_expressions.specs.Values.{one, sequence}
 use Rattle.paper_expressions.specs.Operators as section-11
 use Rattle.paper_expressions.specs.Operators.{+1, -1, ±0, ±?, element, F, F-includes, F-oneof}
-use Rattle.paper_expressions.specs.Laws.Compare.{Verdict, got, stuck, comp_s, kind_s, comp_f}
+use Rattle.paper_expressions.proofs.Laws.Compare.{Verdict, got, stuck, comp_s, kind_s, comp_f}
 use Rattle.paper_expressions.specs.Clauses.{§11·1·6-1, §11·1·6-2}
-use Rattle.paper_expressions.specs.Laws.Search.{firstb, allb}
-use Rattle.paper_expressions.specs.Laws.Only.{gives, suchb, fineb, zerob, missb, is_unknown, bestb, best_value, extreme_f, includes_f}
+use Rattle.paper_expressions.proofs.Laws.Search.{firstb, allb}
+use Rattle.paper_expressions.proofs.Laws.Only.{gives, suchb, fineb, zerob, missb, is_unknown, bestb, best_value, extreme_f, includes_f}
 use Rattle.numbers.specs.declared.sign.Sign.{Sign}
 use Rattle.numbers.specs.Signs.{verdict}
 use Rattle.values.specs.declared.scalar.Scalar.{Scalar}

@@ -16,9 +16,9 @@ use Rattle.paper_expressions.specs.Limits.{integer_limit}
 use Rattle.paper_expressions.specs.Values as paper
 use Rattle.paper_expressions.specs.Values.{one, sequence}
 use Rattle.paper_expressions.specs.Operators as section-11
-use Rattle.paper_expressions.specs.Laws.Search.{no_clash}
-use Rattle.paper_expressions.specs.Laws.Only as only
-use Rattle.paper_expressions.specs.Laws.Only.{count_f, nth_l}
+use Rattle.paper_expressions.proofs.Laws.Search.{no_clash}
+use Rattle.paper_expressions.proofs.Laws.Only as only
+use Rattle.paper_expressions.proofs.Laws.Only.{count_f, nth_l}
 use Rattle.values.specs.declared.scalar.Scalar.{Scalar}
 use Rattle.values.specs.declared.list.List as Code
 use Rattle.values.specs.declared.value.Value.{Value}

@@ -3,7 +3,7 @@ use mathlib.Core.Path.{◌≡◌, refl}
 use mathlib.Core.Bool.{Bool, true, false}
 use mathlib.Core.Option.{Option, none, some}
 use Prim.Native.Nat.{ℕ, ◌<◌}
-use Rattle.paper_expressions.specs.Laws.Search.{no_clash, Reflects, of_yes, of_no, reflects_true, reflects_false, allb, all_reflects, firstb, FirstOf, first_is, no_first, first_of, first_same}
+use Rattle.paper_expressions.proofs.Laws.Search.{no_clash, Reflects, of_yes, of_no, reflects_true, reflects_false, allb, all_reflects, firstb, FirstOf, first_is, no_first, first_of, first_same}
 
 itself : (b : Bool) → Reflects (b ≡ true) b
 itself true = of_yes refl

@@ -14,7 +14,7 @@ use Rattle.paper_expressions.specs.Values as paper
 use Rattle.paper_expressions.specs.Values.{one, sequence, unit}
 use Rattle.paper_expressions.specs.Clauses.{§11·2·6-1a, §11·2·6-1b, §11·2·6-1c, §11·2·6-1d}
 use Rattle.paper_expressions.specs.Operators as section-11
-use Rattle.paper_expressions.specs.Laws.Only.{gives, add_z, integers_f, numbers_f, total_f, sum_f}
+use Rattle.paper_expressions.proofs.Laws.Only.{gives, add_z, integers_f, numbers_f, total_f, sum_f}
 use Rattle.numbers.specs.declared.number.Num.{Num}
 use Rattle.numbers.specs.declared.number.Wide.{Wide}
 use Rattle.numbers.proofs.Z.{abs_add}

@@ -6,9 +6,9 @@ use Rattle.std.proofs.Math.Option.{Option, some, none}
 use Rattle.paper_expressions.specs.Values.{Scalar, Value, sequence, IsSequence, is_sequence}
 use Rattle.paper_expressions.specs.Clauses.{Clause}
 use Rattle.paper_expressions.specs.Operators.{Extreme, min, extreme, Best, Extremal, extremal_1, extremal_2, F, F-extreme}
-use Rattle.paper_expressions.specs.Laws.Search.{FirstOf, first_is, no_first, first_of, firstb}
-use Rattle.paper_expressions.specs.Laws.Only.{bestb, best_reflects}
-use Rattle.paper_expressions.specs.Laws.Minimum.{NumbersAndUnknowns, Minimum, minimum}
+use Rattle.paper_expressions.proofs.Laws.Search.{FirstOf, first_is, no_first, first_of, firstb}
+use Rattle.paper_expressions.proofs.Laws.Only.{bestb, best_reflects}
+use Rattle.paper_expressions.proofs.Laws.Minimum.{NumbersAndUnknowns, Minimum, minimum}
 use Rattle.values.specs.declared.value.Value as Code
 use Rattle.values.specs.Meaning.{meaning_v}
 use Rattle.operators.specs.Means.{Means}

@@ -2,9 +2,9 @@
 use Rattle.std.specs.Prelude.{Bool, true, false, not, List, ℕ, get_or, length}
 use Rattle.paper_expressions.specs.Values as paper
 use Rattle.paper_expressions.specs.Operators as section-11
-use Rattle.paper_expressions.specs.Laws.Compare.{comp_s, kind_s}
-use Rattle.paper_expressions.specs.Laws.Search.{allb}
-use Rattle.paper_expressions.specs.Laws.Only.{missb, suchb, fineb}
+use Rattle.paper_expressions.proofs.Laws.Compare.{comp_s, kind_s}
+use Rattle.paper_expressions.proofs.Laws.Search.{allb}
+use Rattle.paper_expressions.proofs.Laws.Only.{missb, suchb, fineb}
 use Rattle.numbers.specs.declared.sign.Sign.{Sign}
 use Rattle.numbers.specs.declared.sign.Sign.TheVariants.{Greater, Less, Equal, Unknown, Unfit}
 use Rattle.operators.specs.declared.operator.Extreme.{Extreme}

@@ -2,7 +2,7 @@
 use Rattle.std.specs.Prelude.{◌≡◌, Bool, true, false, cond, List, [], ◌∷◌, ℕ, ◌+◌, ◌≤◌, ◌^◌, ℤ, pos, nat_abs}
 use Rattle.std.proofs.Math.Option.{Option, none, some}
 use Rattle.paper_expressions.specs.Values as paper
-use Rattle.paper_expressions.specs.Laws.Only.{integers_f, numbers_f}
+use Rattle.paper_expressions.proofs.Laws.Only.{integers_f, numbers_f}
 use Rattle.numbers.specs.declared.number.Wide.{Wide}
 use Rattle.values.specs.declared.scalar.Scalar.{Scalar}
 use Rattle.values.specs.declared.scalar.Scalar.TheVariants.{Unknown}

@@ -2,7 +2,7 @@
 ghost use Rattle.std.specs.Prelude.{◌≡◌, List as Seq, [], ◌∷◌, ℕ, ◌≤◌, ◌^◌, nat_abs};
 ghost use Rattle.paper_expressions.specs.Values.{one, sequence};
 ghost use Rattle.paper_expressions.specs.Operators as paper;
-ghost use Rattle.paper_expressions.specs.Laws.Only.{sum_f};
+ghost use Rattle.paper_expressions.proofs.Laws.Only.{sum_f};
 ghost use Rattle.values.specs.Meaning.{meaning, meaning_l};
 ghost use Rattle.operators.specs.Means.{Means};
 ghost use Rattle.operators.specs.Comes.{given};

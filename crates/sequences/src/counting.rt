@@ -3,7 +3,7 @@ ghost use Rattle.std.specs.Prelude.{◌≡◌, List as Seq, [], ◌∷◌, ℕ, 
 ghost use Rattle.paper_expressions.specs.Limits.{list_limit};
 ghost use Rattle.paper_expressions.specs.Values.{one};
 ghost use Rattle.paper_expressions.specs.Operators as paper;
-ghost use Rattle.paper_expressions.specs.Laws.Only.{at, nth_l};
+ghost use Rattle.paper_expressions.proofs.Laws.Only.{at, nth_l};
 ghost use Rattle.values.specs.Meaning.{meaning, meaning_l};
 ghost use Rattle.operators.specs.Means.{Means};
 ghost use Rattle.operators.specs.Comes.{given};

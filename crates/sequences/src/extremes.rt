@@ -3,7 +3,7 @@ ghost use Rattle.std.specs.Prelude.{◌≡◌, [], ◌∷◌, ◌<◌};
 ghost use Rattle.paper_expressions.specs.Limits.{list_limit};
 ghost use Rattle.paper_expressions.specs.Values.{one, sequence};
 ghost use Rattle.paper_expressions.specs.Operators as paper;
-ghost use Rattle.paper_expressions.specs.Laws.Only.{bestb, extreme_f};
+ghost use Rattle.paper_expressions.proofs.Laws.Only.{bestb, extreme_f};
 ghost use Rattle.values.specs.Meaning.{meaning, meaning_l, size_of};
 ghost use Rattle.operators.specs.Means.{Means, end};
 ghost use Rattle.operators.specs.Comes.{given};

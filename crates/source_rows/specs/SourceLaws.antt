@@ -9,8 +9,8 @@ use Rattle.paper_guideline.specs.Parts.{Source, sources_of}
 use Rattle.paper_rows.specs.Table.{task, data_item, source, Component, ◌№◌, a_source, Property, class, name, sources, data_item_of, RowValue, class_is, component_is, components_are, text_row, Table, Contains}
 use Rattle.paper_rows.specs.Load as Load
 use Load.{Adds, InstantiateTask, InstantiateSource, attribute_3, numbered}
-use Rattle.paper_rows.specs.Laws.Lists.{indexed_at, at_below}
-use Rattle.paper_engine.specs.Laws.Kept.{adds, has, fixed_class, fixed_name, fixed_sources, instantiated, item_view, task_id}
+use Rattle.paper_rows.proofs.Laws.Lists.{indexed_at, at_below}
+use Rattle.paper_engine.proofs.Laws.Kept.{adds, has, fixed_class, fixed_name, fixed_sources, instantiated, item_view, task_id}
 use Rattle.parts.specs.Texts.{text_at_fn}
 use Rattle.truths.specs.Part.{part_of, part_at}
 use Rattle.waits.specs.Twins.{first_at, item_at}

@@ -3,17 +3,17 @@ use Rattle.std.specs.Prelude.{ℕ, zero, suc, ◌+◌, ◌*◌, ◌≤◌, ◌<�
 use Rattle.std.proofs.Common.{arith, sym, ap, subst, ◌∙◌, inl, inr, ⊎_elim, leb-true, leb-false, le-leb, ltb-true, ltb-false, lt-ltb}
 use Rattle.std.proofs.Math.Option.{Option, none, some}
 use Rattle.std.proofs.lemmas.Bool.{lt-leb}
-use Rattle.paper_expressions.specs.Laws.Tests.{two}
+use Rattle.paper_expressions.proofs.Laws.Tests.{two}
 use Rattle.paper_expressions.specs.View as View
 use Rattle.paper_guideline.specs.Limits.{guideline_limit, token_limit, task_limit, data_item_limit, part_limit, assignment_limit, source_limit}
 use Rattle.paper_tokens.specs.Lexical.{Token, Tokens}
 use Rattle.paper_tokens.specs.Terminals.{Terminals}
-use Rattle.paper_tokens.specs.Laws.TerminalLaws.{terminals_are, terminal_f}
+use Rattle.paper_tokens.proofs.Laws.TerminalLaws.{terminals_are, terminal_f}
 use Rattle.paper_guideline.specs.LeftOut.{LeftOut}
 use Rattle.paper_grammar.specs.Sentence.{SentenceOf}
 use Rattle.paper_grammar.specs.Nonterminals.{⟨process⟩}
 use Rattle.paper_guideline.specs.Structure.{TopLevel, Structure}
-use Rattle.paper_guideline.specs.Laws.CompleteLaws.{some_structure}
+use Rattle.paper_guideline.proofs.Laws.CompleteLaws.{some_structure}
 use Rattle.paper_guideline.specs.Refusals as Refusals
 use Refusals.{TooManyOpen, long, many_tokens, many_open, text_stage, count_stage, limit_stage, token_breach, many_parts, total_parts}
 use Rattle.leaves.specs.Source.{Source, source, Stand, at_end, at_token}

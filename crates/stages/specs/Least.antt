@@ -2,7 +2,7 @@
 use Rattle.std.specs.Prelude.{ℕ, ◌≤◌, ◌<◌, ◌≡◌, refl, ◌⊎◌, Bool, true, false, cond, leb}
 use Rattle.std.proofs.Common.{arith, sym, ap, subst, ◌∙◌, inl, inr, ⊎_elim, leb-true, leb-false}
 use Rattle.std.proofs.Math.Option.{Option, none, some}
-use Rattle.paper_expressions.specs.Laws.Tests.{two}
+use Rattle.paper_expressions.proofs.Laws.Tests.{two}
 
 abbrev pub Least : (ℕ → Type 0) → Option ℕ → Type 0
 Least P none = (q : ℕ) → ¬ P q

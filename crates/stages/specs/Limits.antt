@@ -5,9 +5,9 @@ use Rattle.std.proofs.Math.Option.{Option, none, some}
 use Rattle.paper_expressions.specs.Limits.{list_limit}
 use Rattle.paper_expressions.specs.View.{At}
 use Rattle.paper_tokens.specs.Lexical.{Token, Tokens}
-use Rattle.paper_tokens.specs.Laws.LexicalLaws as LexicalLaws
+use Rattle.paper_tokens.proofs.Laws.LexicalLaws as LexicalLaws
 use Rattle.paper_guideline.specs.Structure.{TopLevel, Structure, tasks, data_items}
-use Rattle.paper_guideline.specs.Laws.StructureLaws.{one_structure}
+use Rattle.paper_guideline.proofs.Laws.StructureLaws.{one_structure}
 use Rattle.paper_guideline.specs.Parts.{Typed, expressions, assignments, sources}
 use Rattle.paper_guideline.specs.Limits.{task_limit, data_item_limit, part_limit, depth_limit, assignment_limit, source_limit, depth, longest_list}
 use Rattle.paper_guideline.specs.Refusals

@@ -6,8 +6,8 @@ use Rattle.paper_guideline.specs.Structure.{TopLevel}
 use Rattle.paper_expressions.specs.Expressions.{Expr}
 use Rattle.paper_rows.specs.Table.{task, ◌№◌, cycle_count, procedure, RowValue, integer_row, expression_is, Table, Contains}
 use Rattle.paper_rows.specs.Load.{Adds}
-use Rattle.paper_engine.specs.Laws.Kept.{Kept}
-use Rattle.paper_engine.specs.Laws.CountLaws.{Counted}
+use Rattle.paper_engine.proofs.Laws.Kept.{Kept}
+use Rattle.paper_engine.proofs.Laws.CountLaws.{Counted}
 use Rattle.starting.specs.StartRows.{Countable}
 
 same_count : {a b : ℕ} → integer_row (pos a) ≡ integer_row (pos b) → a ≡ b

@@ -3,7 +3,7 @@ use Rattle.std.specs.Prelude.{ℕ, ◌+◌, ◌*◌, ◌<◌, ◌≤◌, ◌≡�
 use Rattle.std.proofs.Common.{arith, sym, ap, subst, ◌∙◌, true≢false, inl, inr, eq-eqb, eqb-true}
 use Rattle.std.proofs.Math.Decide.{dec_lt}
 use Rattle.std.proofs.Math.Option.{Option, some}
-use Rattle.paper_expressions.specs.Laws.Search.{no_clash}
+use Rattle.paper_expressions.proofs.Laws.Search.{no_clash}
 use Rattle.paper_expressions.specs.Values.{in_progress}
 use Rattle.paper_expressions.specs.Expressions.{Expr}
 use Rattle.paper_expressions.specs.View.{At}

@@ -3,7 +3,7 @@
 use Rattle.std.specs.Prelude.{ℕ, ◌+◌, ◌≡◌, refl, Bool, true, false, cond, ◌&&◌, ◌↔◌, eqb, leb, ℤ, pos, negsuc, nat_abs, ◌≤◌}
 use Rattle.std.proofs.Common.{sym, ap, ap₂, ◌∙◌, eq-eqb, eqb-true, le-leb, leb-true}
 use Rattle.std.proofs.Math.Option.{Option, none, some}
-use Rattle.paper_expressions.specs.Laws.Search.{no_clash}
+use Rattle.paper_expressions.proofs.Laws.Search.{no_clash}
 use Rattle.paper_expressions.specs.Values.{Scalar, unknown, truth, integer, real, text, Value, one, sequence, TaskState, dormant, in_progress, discarded, completed}
 use Rattle.paper_rows.specs.Table.{RowValue, value_is, state_is, class_is, type_is, time_is, expression_is, assertion_is, component_is, components_are, unknown_row, truth_row, integer_row}
 

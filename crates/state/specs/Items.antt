@@ -7,8 +7,8 @@ use Rattle.std.proofs.Math.Option.{Option, none, some}
 use Rattle.std.proofs.Math.ListN.{get_or-eq_default}
 use Rattle.paper_expressions.specs.Limits.{integer_limit, real_limit, text_limit, list_limit}
 use Rattle.paper_expressions.specs.Values.{Scalar, unknown, truth, integer, real, text, Value, one, sequence}
-use Rattle.paper_expressions.specs.Laws.WithinLimits.{Small, unknown_small, truth_small, integer_small, real_small, text_small, EachSmall, none_small, more_small, Limited, one_limited, list_limited}
-use Rattle.paper_expressions.specs.Laws.Search.{no_clash}
+use Rattle.paper_expressions.proofs.Laws.WithinLimits.{Small, unknown_small, truth_small, integer_small, real_small, text_small, EachSmall, none_small, more_small, Limited, one_limited, list_limited}
+use Rattle.paper_expressions.proofs.Laws.Search.{no_clash}
 use Rattle.parts.specs.Texts.{handle, literal, moved, literal_moved}
 use Rattle.state.specs.Cell.{bit}
 

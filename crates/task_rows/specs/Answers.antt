@@ -2,7 +2,7 @@
 use Rattle.std.specs.Prelude.{ℕ, suc, ◌+◌, ◌-◌, ◌/◌, ◌%◌, ◌≤◌, ◌≡◌, refl, Bool, true, false, cond, List, eqb, get_or}
 use Rattle.std.proofs.Common.{arith, sym, ap, subst, ◌∙◌, ne_eqb}
 use Rattle.std.proofs.Math.Option.{Option, none, some}
-use Rattle.paper_expressions.specs.Laws.Search.{no_clash}
+use Rattle.paper_expressions.proofs.Laws.Search.{no_clash}
 use Rattle.paper_expressions.specs.Values.{one, text}
 use Rattle.paper_rows.specs.Table.{task, ◌№◌, Class, a_plan, an_action, an_enquiry, Property, RowValue, class_is, component_is, text_row}
 use Rattle.paper_calls.specs.Calls as Calls

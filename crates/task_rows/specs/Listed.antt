@@ -2,15 +2,15 @@
 use Rattle.std.specs.Prelude.{ℕ, suc, ◌+◌, ◌≡◌, refl, Bool, true, false, ◌&&◌, List, [], ◌∷◌, eqb}
 use Rattle.std.proofs.Common.{arith, sym, ap, subst, ◌∙◌, eqb-true}
 use Rattle.std.proofs.Math.Option.{Option, none, some}
-use Rattle.paper_expressions.specs.Laws.Search.{at_f, at_only}
+use Rattle.paper_expressions.proofs.Laws.Search.{at_f, at_only}
 use Rattle.paper_expressions.specs.View.{At, at_first, at_later}
 use Rattle.paper_guideline.specs.Structure.{TopLevel}
 use Rattle.paper_rows.specs.Table.{task, ◌№◌, Property, properties, RowValue, Table, Contains}
 use Rattle.paper_rows.specs.Load as Load
 use Load.{Adds}
-use Rattle.paper_rows.specs.Laws.Ranks.{property_rank, property_ranked}
-use Rattle.paper_rows.specs.Laws.Seen.{same_some}
-use Rattle.paper_engine.specs.Laws.Kept as Kept
+use Rattle.paper_rows.proofs.Laws.Ranks.{property_rank, property_ranked}
+use Rattle.paper_rows.proofs.Laws.Seen.{same_some}
+use Rattle.paper_engine.proofs.Laws.Kept as Kept
 use Kept.{Moving, Kept}
 use Rattle.waits.specs.Booleans.{is_and}
 

@@ -5,8 +5,8 @@ use Rattle.std.proofs.Math.Option.{Option, none, some}
 use Rattle.paper_expressions.specs.View.{At}
 use Rattle.paper_guideline.specs.Structure.{TopLevel}
 use Rattle.paper_rows.specs.Table.{task, ◌№◌, Property, properties, class, name, antecedent_tasks, trigger, parent_plan, confirmatory, terminal, integer_row, RowValue, Table}
-use Rattle.paper_rows.specs.Laws.Ranks.{property_rank}
-use Rattle.paper_engine.specs.Laws.Kept as Kept
+use Rattle.paper_rows.proofs.Laws.Ranks.{property_rank}
+use Rattle.paper_engine.proofs.Laws.Kept as Kept
 use Rattle.state.specs.Layout.{TaskColumn, state_column, trigger_column, confirmed_column, count_column, cycles_column, start_column, in_progress_column, discarded_column, completed_column, procedure_column}
 use Rattle.waits.specs.Booleans.{any_f}
 use Rattle.waits.specs.Twins.{marked, waiting, parent_at, trigger_f}

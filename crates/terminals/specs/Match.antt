@@ -3,8 +3,8 @@ use Rattle.std.specs.Prelude.{◌≡◌, Bool, true, false, not, ◌||◌, ◌�
 use Rattle.std.proofs.Common.{sym, ap, subst, ◌∙◌, inl, inr, ⊎_elim, arith, eqb→eq, leb→le, ltb→lt, eqb-true}
 use types.Run.{OneOf, hit, miss}
 use mir.Val.{has_key}
-use Rattle.paper_expressions.specs.Laws.Tests.{contra, two, and_l, and_r, every}
-use Rattle.paper_grammar.specs.Laws.Ll.{is_in}
+use Rattle.paper_expressions.proofs.Laws.Tests.{contra, two, and_l, and_r, every}
+use Rattle.paper_grammar.proofs.Laws.Ll.{is_in}
 use Rattle.terminals.specs.Every.{below, at_below, or_right, holds}
 
 abbrev pub any_key : List (List ℕ) → ℕ → Bool

@@ -2,7 +2,7 @@
 use Rattle.std.specs.Prelude.{ℕ, ◌≡◌, refl, Bool, true, false, cond, ◌&&◌, ◌||◌, not, List, [], ◌∷◌, ◌++◌, eqb, leb}
 use Rattle.std.proofs.Common.{sym, ap, subst, ◌∙◌, ⊎_elim, append-nil, eqb-true}
 use Rattle.std.proofs.lemmas.Bool.{eqb-false}
-use Rattle.paper_expressions.specs.Laws.Tests.{contra, two, or_cases, and_l, and_r}
+use Rattle.paper_expressions.proofs.Laws.Tests.{contra, two, or_cases, and_l, and_r}
 use Rattle.paper_tokens.specs.Kinds.{other, letter, power, digit, minus, point, quote, backslash, blank, slash, star, high, double_quote, kind_of}
 use Rattle.paper_tokens.specs.Forms.{Form, never, empty, any, one, ◌then◌, ◌or◌, many, no, One, Many, stop, more, Match, is_in}
 use Rattle.paper_tokens.specs.Lexical.{plain_float, exponent, float_form}

@@ -2,7 +2,7 @@
 -- Law: the test decides OverLimit. By induction on the digits: what is cut off is still past the limit.
 use Rattle.std.specs.Prelude.{ℕ, suc, ◌+◌, ◌*◌, ◌-◌, ◌≤◌, ◌<◌, ◌≡◌, refl, Bool, true, false, cond, ◌||◌, ◌⊎◌, List, [], ◌∷◌, eqb, leb, ltb, nat_abs, neg_ℤ, length, get_or}
 use Rattle.std.proofs.Common.{sym, ap, ◌∙◌, inl, inr, ⊎_elim, arith, ne_eqb, leb-true, leb-false, lt-ltb, le-ltb, ltb-true}
-use Rattle.paper_expressions.specs.Laws.Tests.{contra, two, or_cases}
+use Rattle.paper_expressions.proofs.Laws.Tests.{contra, two, or_cases}
 use Rattle.paper_expressions.specs.Limits as Values
 use Values.{integer_limit, real_limit}
 use Rattle.paper_expressions.specs.View.{At, at_first, at_later}
@@ -11,7 +11,7 @@ use Rattle.paper_guideline.specs.Limits.{decimal_limit}
 use Rattle.paper_tokens.specs.Literals.{whole, thousandths, behind_point}
 use Rattle.paper_tokens.specs.Lexical.{Token, inner}
 use Rattle.paper_tokens.specs.Terminals.{name, Terminal, a_reserved_word, yes_no, a_data_type, another_atom, an_integer, a_float, a_string}
-use Rattle.paper_tokens.specs.Laws.TerminalLaws.{one_terminal, reserved_below}
+use Rattle.paper_tokens.proofs.Laws.TerminalLaws.{one_terminal, reserved_below}
 use Rattle.paper_guideline.specs.Refusals.{TokenBreach, long_name, long_text, large_integer, large_real, long_fraction}
 use Rattle.parts.specs.Texts.{cells}
 use Rattle.leaves.specs.Leaf.{atom_range}

@@ -2,7 +2,7 @@
 ghost use Rattle.std.specs.Prelude.{◌≡◌, ◌+◌, ◌≤◌, ◌<◌, length};
 ghost use Rattle.parts.specs.Texts.{cells};
 ghost use Rattle.token_tests.specs.Exponent.{begins_exponent, has_exponent};
-ghost use Rattle.paper_grammar.specs.Laws.Ll.{is_in};
+ghost use Rattle.paper_grammar.proofs.Laws.Ll.{is_in};
 ghost use Rattle.paper_guideline.specs.LeftOut.{left_out_words};
 ghost use Rattle.token_tests.specs.LeftOutTest.{name_bytes, name_lengths, named_from, left_out_test};
 

@@ -2,9 +2,9 @@
 use Rattle.std.specs.Prelude.{ℕ, ◌+◌, ◌≤◌, ◌<◌, ◌≡◌, Bool, true, false, ◌&&◌, List, [], ◌∷◌, eqb}
 use Rattle.std.proofs.Common.{arith, sym, ap, ◌∙◌, add-one, below_more, eqb-true, eq-eqb}
 use Rattle.std.proofs.Math.Decide.{dec_lt}
-use Rattle.paper_expressions.specs.Laws.Tests.{contra, and_l, and_r}
+use Rattle.paper_expressions.proofs.Laws.Tests.{contra, and_l, and_r}
 use Rattle.paper_tokens.specs.Tokens.{“caption”, “description”, “mandatory”}
-use Rattle.paper_grammar.specs.Laws.Ll.{is_in}
+use Rattle.paper_grammar.proofs.Laws.Ll.{is_in}
 use Rattle.row_names.specs.Sheet.{task_kind}
 use Rattle.row_names.specs.Flat.{is_data}
 use Rattle.plan.specs.Writes.{one_if, counted, is_source}

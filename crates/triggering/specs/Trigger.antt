@@ -3,16 +3,16 @@ use Rattle.std.specs.Prelude.{ℕ, zero, suc, ◌+◌, ◌-◌, ◌<◌, ◌≤�
 use Rattle.std.proofs.Common.{arith, sym, ap, subst, ◌∙◌, ext_get_or, eqb-true, eq-eqb, ne_eqb, le-ltb, lt-ltb}
 use Rattle.std.proofs.Math.Decide.{dec_lt, ℕ_discrete}
 use Rattle.std.proofs.Math.Option.{Option, none, some}
-use Rattle.paper_expressions.specs.Laws.Search.{no_clash, sameb, same_reflects, Reflects, true_reflects, of_yes, of_no}
+use Rattle.paper_expressions.proofs.Laws.Search.{no_clash, sameb, same_reflects, Reflects, true_reflects, of_yes, of_no}
 use Rattle.paper_expressions.specs.Values.{in_progress}
 use Rattle.paper_guideline.specs.Structure.{TopLevel}
 use Rattle.paper_rows.specs.Table.{task, Component, ◌№◌, Property, state, trigger, trigger_active, parent_plan, RowValue, state_is, component_is, truth_row, text_row, Table, Contains, TaskId}
 use Rattle.paper_rows.specs.Load.{Adds, attribute_5_trigger, task_4}
-use Rattle.paper_rows.specs.Laws.Seen.{same_some}
+use Rattle.paper_rows.proofs.Laws.Seen.{same_some}
 use Rattle.paper_calls.specs.Calls.{Guideline, loaded, Unready, SmallText, send_trigger, trigger_7, trigger_6, trigger_done, SendTrigger, trigger_1, refuses, done}
-use Rattle.paper_calls.specs.Laws.CallLaws.{trigger_mild}
-use Rattle.paper_calls.specs.Laws.TotalLaws.{sends}
-use Rattle.paper_engine.specs.Laws.Kept.{Kept, adds, task_id}
+use Rattle.paper_calls.proofs.Laws.CallLaws.{trigger_mild}
+use Rattle.paper_calls.proofs.Laws.TotalLaws.{sends}
+use Rattle.paper_engine.proofs.Laws.Kept.{Kept, adds, task_id}
 use Rattle.parts.specs.Texts.{cells, text_at_fn}
 use Rattle.blocks.specs.Blocks.{cells_long, cells_at}
 use Rattle.state.specs.Cell.{plain_state}

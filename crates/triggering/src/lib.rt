@@ -2,7 +2,7 @@
 #![tactic(auto)]
 
 ghost use Rattle.std.specs.Prelude.{◌≡◌, ◌+◌, ◌<◌, eqb, get_or};
-ghost use Rattle.paper_expressions.specs.Laws.Search.{sameb};
+ghost use Rattle.paper_expressions.proofs.Laws.Search.{sameb};
 ghost use Rattle.parts.specs.Texts.{text_at_fn};
 ghost use Rattle.triggering.specs.Hit.{hit_f, step_f};
 ghost use Rattle.triggering.specs.Trigger.{Triggers};

@@ -2,7 +2,7 @@
 use Rattle.std.specs.Prelude.{ℕ, ◌+◌, ◌<◌, ◌≤◌, ◌≡◌, refl, Bool, true, false, cond, List, get_or, set, length}
 use Rattle.std.proofs.Common.{arith, sym, ap, subst, ◌∙◌, get_or-set_same, get_or-set_other, below_more}
 use Rattle.std.proofs.Math.Option.{Option, some}
-use Rattle.paper_expressions.specs.Laws.Search.{no_clash}
+use Rattle.paper_expressions.proofs.Laws.Search.{no_clash}
 use Rattle.paper_expressions.specs.Values as paper
 use Rattle.paper_expressions.specs.Values.{one, truth}
 use Rattle.paper_expressions.specs.Types.{TruthValue}
@@ -10,17 +10,17 @@ use Rattle.paper_expressions.specs.View.{View}
 use Rattle.paper_expressions.specs.View as Views
 use Rattle.paper_expressions.specs.Expressions.{Expr, HasType}
 use Rattle.paper_expressions.specs.Evaluation.{Evaluates}
-use Rattle.paper_expressions.specs.Laws.Typing.{type_kept}
-use Rattle.paper_expressions.specs.Laws.WithinLimits.{Modest}
-use Rattle.paper_expressions.specs.Laws.Parentheses.{bare, type_to_bare}
+use Rattle.paper_expressions.proofs.Laws.Typing.{type_kept}
+use Rattle.paper_expressions.proofs.Laws.WithinLimits.{Modest}
+use Rattle.paper_expressions.proofs.Laws.Parentheses.{bare, type_to_bare}
 use Rattle.paper_guideline.specs.Structure.{TopLevel}
 use Rattle.paper_guideline.specs.Refusals.{declared_items}
 use Rattle.paper_guideline.specs.Limits.{depth_limit}
 use Rattle.paper_rows.specs.Table.{task, ◌№◌, Property, RowValue, expression_is, Contains}
 use Rattle.paper_rows.specs.Table as Engine
 use Rattle.paper_engine.specs.Conditions.{Evaluate, IsTrue}
-use Rattle.paper_rows.specs.Laws.Lawful.{Lawful}
-use Rattle.paper_engine.specs.Laws.Kept.{Kept, view_f, view_of, view_sound, same_items, one_view}
+use Rattle.paper_rows.proofs.Laws.Lawful.{Lawful}
+use Rattle.paper_engine.proofs.Laws.Kept.{Kept, view_f, view_of, view_sound, same_items, one_view}
 use Rattle.parts.specs.Part.{Table, Ends, Within}
 use Rattle.values.specs.declared.scalar.Scalar.{Scalar}
 use Rattle.values.specs.declared.scalar.Scalar.TheVariants.{Unknown, Truth, Int, Real, Text}

@@ -2,7 +2,7 @@
 use Rattle.std.specs.Prelude.{ℕ, suc, ◌+◌, ◌-◌, ◌≤◌, ◌<◌, ◌≡◌, refl, Bool, true, false, cond, ◌&&◌, List, [], ◌∷◌, length, get_or, drop}
 use Rattle.std.proofs.Common.{arith, add-one, sym, ap, ◌∙◌, drop_of_length-le, drop-cons, ext_get_or, le-leb}
 use Rattle.std.proofs.lemmas.Bool.{lt-leb}
-use Rattle.paper_expressions.specs.Laws.Search.{sameb, same_reflects, reflects_true, reflects_false}
+use Rattle.paper_expressions.proofs.Laws.Search.{sameb, same_reflects, reflects_true, reflects_false}
 use Rattle.parts.specs.Texts.{cells}
 use Rattle.blocks.specs.Blocks.{cells_long, cells_at}
 use Rattle.typed_value.specs.Lexemes.{run, past, word_at}

@@ -1,6 +1,6 @@
 -- Blanks, letters and words of a line. Definitions only.
 use Rattle.std.specs.Prelude.{ℕ, suc, ◌+◌, ◌-◌, Bool, true, false, cond, ◌&&◌, ◌||◌, List, [], ◌∷◌, eqb, ltb, leb, length, drop}
-use Rattle.paper_expressions.specs.Laws.Search.{sameb}
+use Rattle.paper_expressions.proofs.Laws.Search.{sameb}
 use Rattle.parts.specs.Texts.{cells}
 use Rattle.typed_value.specs.declared.steps.Slip.{Slip}
 use Rattle.typed_value.specs.declared.steps.Slip.TheVariants.{Fine, Missing, Bare, Unclosed, Digits, Decimals, Separator, Nested, Many, Behind}

@@ -5,10 +5,10 @@ use Rattle.std.proofs.Math.Path.{refl, ap}
 use Rattle.std.proofs.Common.{sym, subst, ◌∙◌, lt-ltb}
 use mathlib.Core.List.{List, [], ◌∷◌}
 use Rattle.std.proofs.Math.ListN.{set, length}
-use Rattle.paper_expressions.specs.Laws.Tests.{contra}
+use Rattle.paper_expressions.proofs.Laws.Tests.{contra}
 use Rattle.paper_expressions.specs.Values as paper
 use Rattle.paper_expressions.specs.Values.{Scalar, integer, real, text}
-use Rattle.paper_expressions.specs.Laws.Search.{sameb, same_reflects, true_reflects}
+use Rattle.paper_expressions.proofs.Laws.Search.{sameb, same_reflects, true_reflects}
 use Rattle.parts.specs.Texts.{cells}
 use Rattle.blocks.specs.Blocks.{cells_long}
 use Rattle.typed_value.specs.Lexemes.{blankb, digitb, letterb, past, after_of, word_at, fine}

@@ -6,7 +6,7 @@ use Rattle.paper_expressions.specs.Types.{Ty}
 use Rattle.paper_expressions.specs.View.{View, Apart}
 use Rattle.paper_expressions.specs.Operators.{Op}
 use Rattle.paper_expressions.specs.Expressions.{Expr, Exprs, Atom, IntegerLit, FloatLit, StringLit, Paren, Listing, Apply, Listed, Applied, HasType, rule_8_9, rule_10, HaveTypes, types_none, types_more}
-use Rattle.paper_expressions.specs.Laws.Typing.{types_only}
+use Rattle.paper_expressions.proofs.Laws.Typing.{types_only}
 use Rattle.parts.specs.Codes.{code, kind}
 use Rattle.parts.specs.CodeRange.{operator_code}
 use Rattle.parts.specs.Part.{number_of, operands}

@@ -2,8 +2,8 @@
 use Rattle.std.specs.Prelude.{◌≡◌, Bool, List, ℕ}
 use Rattle.paper_expressions.specs.View.{View, Apart}
 use Rattle.paper_expressions.specs.Expressions.{HasType}
-use Rattle.paper_expressions.specs.Laws.Parentheses.{bare}
-use Rattle.paper_expressions.specs.Laws.Search.{Reflects}
+use Rattle.paper_expressions.proofs.Laws.Parentheses.{bare}
+use Rattle.paper_expressions.proofs.Laws.Search.{Reflects}
 use Rattle.paper_guideline.specs.Structure.{Name}
 use Rattle.paper_guideline.specs.Parts as Paper
 use Paper.{Typed, condition, wording, assigned_to}

@@ -7,13 +7,13 @@ use Rattle.paper_expressions.specs.Clauses.{Clause}
 use Rattle.paper_expressions.specs.Types.{Ty, Text, Integer, Real, SetofText, SetofReal, SetofInteger, SetofAnything, TruthValue, Promotes, inferred}
 use Rattle.paper_expressions.specs.View.{View, Item, At, Apart, ResolveData, resolve_data_2}
 use Rattle.paper_expressions.specs.Expressions.{HasType}
-use Rattle.paper_expressions.specs.Laws.Typing.{one_type}
-use Rattle.paper_expressions.specs.Laws.Parentheses.{bare}
-use Rattle.paper_expressions.specs.Laws.Search.{Reflects, of_yes, of_no, reflects_iff}
+use Rattle.paper_expressions.proofs.Laws.Typing.{one_type}
+use Rattle.paper_expressions.proofs.Laws.Parentheses.{bare}
+use Rattle.paper_expressions.proofs.Laws.Search.{Reflects, of_yes, of_no, reflects_iff}
 use Rattle.paper_guideline.specs.Structure.{Name}
 use Rattle.paper_guideline.specs.Parts.{Typed, condition, wording, assigned_to}
 use Rattle.paper_guideline.specs.Refusals.{Fitting, fits_condition, fits_wording, fits_assigned}
-use Rattle.paper_guideline.specs.Laws.FittingTwin.{assigned_iff}
+use Rattle.paper_guideline.proofs.Laws.FittingTwin.{assigned_iff}
 use Rattle.parts.specs.Part.{Table}
 use Rattle.parts.specs.Items.{Found}
 use Rattle.parts.specs.ItemLaws.{resolved, unresolved}

@@ -3,7 +3,7 @@
 use Rattle.std.specs.Prelude.{cond, List, [], ◌∷◌, ℕ, eqb}
 use Rattle.paper_expressions.specs.Types.{Ty, Text, Integer, Real, SetofText, SetofReal, SetofInteger, SetofAnything, TruthValue}
 use Rattle.paper_expressions.specs.Expressions.{Each, all_none, all_more, TextType, text_type, IntegerType, integer_type, IntegerOrReal, integer_or, or_real, Listed, rule_8, rule_9a, rule_9b, rule_9c}
-use Rattle.paper_expressions.specs.Laws.Typing.{no_list}
+use Rattle.paper_expressions.proofs.Laws.Typing.{no_list}
 use Rattle.resolution.specs.Letters.{letter, Outcome, is, none}
 
 -- a list of type l gets a text, an integer, a real in front

@@ -4,9 +4,9 @@ use Rattle.std.proofs.Common.{sym, ap, subst, ◌∙◌, not-suc-le-zero, arith,
 use Rattle.paper_expressions.specs.Types.{Ty}
 use Rattle.paper_expressions.specs.View.{View, Apart}
 use Rattle.paper_expressions.specs.Expressions.{Expr, Exprs, HasType, HaveTypes, types_none, types_more}
-use Rattle.paper_expressions.specs.Laws.Typing.{one_type}
-use Rattle.paper_expressions.specs.Laws.Parentheses.{bare, type_to_bare, type_of_bare}
-use Rattle.paper_expressions.specs.Laws.Search.{no_clash}
+use Rattle.paper_expressions.proofs.Laws.Typing.{one_type}
+use Rattle.paper_expressions.proofs.Laws.Parentheses.{bare, type_to_bare, type_of_bare}
+use Rattle.paper_expressions.proofs.Laws.Search.{no_clash}
 use Rattle.parts.specs.Part.{Table, code_at, count_at, size_at, load_at, Load, sizes, number_of, operands, HoldsAll, Ends, Within, Withins}
 use Rattle.parts.specs.Operands.{ended, within_kids, nth_of, from, from_all, from_step, within_nth, Left, left_all, left_ends, left_step}
 use Rattle.parts.specs.Items.{Items}

@@ -2,7 +2,7 @@
 use Rattle.std.specs.Prelude.{ℕ, ◌+◌, ◌≤◌, ◌<◌, ◌≡◌, Bool, List, length, take}
 use Rattle.std.proofs.Math.Option.{some}
 use Rattle.paper_expressions.specs.View.{At}
-use Rattle.paper_expressions.specs.Laws.Search.{Reflects}
+use Rattle.paper_expressions.proofs.Laws.Search.{Reflects}
 use Rattle.paper_guideline.specs.Structure.{TopLevel, data_items}
 use Rattle.paper_guideline.specs.Limits.{data_item_limit}
 use Rattle.paper_guideline.specs.Names.{NameBreach}

@@ -6,15 +6,15 @@ use Rattle.std.proofs.Math.Decide.{dec_lt}
 use Rattle.std.proofs.lemmas.List.{length-map}
 use Rattle.paper_expressions.specs.Expressions.{Expr, Atom, IntegerLit, FloatLit, StringLit, Paren, Listing, Apply}
 use Rattle.paper_expressions.specs.View.{View, Item, At}
-use Rattle.paper_expressions.specs.Laws.Tests.{two}
-use Rattle.paper_expressions.specs.Laws.Search.{Reflects, of_yes, of_no, true_reflects, false_reflects, at_one}
-use Rattle.paper_expressions.specs.Laws.Parentheses.{bare}
+use Rattle.paper_expressions.proofs.Laws.Tests.{two}
+use Rattle.paper_expressions.proofs.Laws.Search.{Reflects, of_yes, of_no, true_reflects, false_reflects, at_one}
+use Rattle.paper_expressions.proofs.Laws.Parentheses.{bare}
 use Rattle.paper_tokens.specs.Tokens.{“=”}
 use Rattle.paper_guideline.specs.Structure.{Name, Outermost, DataItem, TopLevel, data_items}
 use Rattle.paper_guideline.specs.Limits.{data_item_limit, depth_limit}
 use Rattle.paper_guideline.specs.Parts.{condition, wording, assigned_to, Typed, expressions}
 use Rattle.paper_guideline.specs.Refusals.{declared_items, Fitting}
-use Rattle.paper_guideline.specs.Laws.AnswerLaws.{names_apart}
+use Rattle.paper_guideline.proofs.Laws.AnswerLaws.{names_apart}
 use Rattle.parts.specs.Texts.{text_at_fn}
 use Rattle.parts.specs.Part.{Table, size, Ends}
 use Rattle.parts.specs.Items.{Items}

@@ -7,7 +7,7 @@ use Rattle.paper_guideline.specs.Limits.{token_limit, data_item_limit}
 use Rattle.paper_guideline.specs.Names.{NameBreach}
 use Rattle.paper_guideline.specs.Parts.{expressions}
 use Rattle.paper_guideline.specs.Refusals.{count_stage, limit_stage, type_stage, declared_items, Fitting, Read, Breach, many_tokens, many_data_items, no_type}
-use Rattle.paper_guideline.specs.Laws.StageTwin.{one_read}
+use Rattle.paper_guideline.proofs.Laws.StageTwin.{one_read}
 use Rattle.parts.specs.Part.{Table}
 use Rattle.guideline_rows.specs.Rows.{flatten}
 use Rattle.guideline_rows.specs.Encoded.{Encoded}

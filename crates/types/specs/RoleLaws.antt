@@ -5,7 +5,7 @@ use Rattle.std.proofs.Math.Option.{none, some}
 use Rattle.paper_expressions.specs.Types.{Ty}
 use Rattle.paper_expressions.specs.View.{View, Item, At, at_first, at_later, resolve_data_2}
 use Rattle.paper_expressions.specs.Expressions.{Expr, Exprs, HasType, rule_1b, rule_1c, rule_2, rule_3, rule_4, rule_5, rule_8_9, rule_10, HaveTypes, types_none, types_more}
-use Rattle.paper_expressions.specs.Laws.Tests.{contra}
+use Rattle.paper_expressions.proofs.Laws.Tests.{contra}
 use Rattle.paper_tokens.specs.Tokens.{“data”, “=”, “caption”, “description”}
 use Rattle.paper_guideline.specs.Structure
 use Structure.{Name, Outermost, Placed, Assignment, ComponentAttribute, schedule_constraint, terminal, Generic, caption, description, SourceAttribute, source_generic, mandatory}

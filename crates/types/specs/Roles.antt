@@ -3,7 +3,7 @@ use Rattle.std.specs.Prelude.{ℕ, Bool, cond, List, [], ◌∷◌, eqb}
 use Rattle.std.proofs.Math.Option.{Option, none, some}
 use Rattle.paper_expressions.specs.View.{Item}
 use Rattle.paper_tokens.specs.Tokens.{“=”, “caption”, “description”}
-use Rattle.paper_grammar.specs.Laws.Ll.{is_in}
+use Rattle.paper_grammar.proofs.Laws.Ll.{is_in}
 use Rattle.paper_guideline.specs.Parts.{Role, condition, wording, assigned_to, Typed}
 use Rattle.guideline_rows.specs.Rows.{Row, a_task, a_data_item, with_expression, with_name, with_answer, a_postcondition, an_assignment}
 use Rattle.row_tests.specs.Table.{cell_of}

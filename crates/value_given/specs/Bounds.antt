@@ -4,11 +4,11 @@ use Rattle.std.proofs.Common.{arith, not-suc-le-zero, sym, ap, subst, ◌∙◌,
 use Rattle.std.proofs.Math.Decide.{dec_lt}
 use Rattle.std.proofs.Math.Option.{Option, none, some}
 use Rattle.paper_expressions.specs.Limits.{integer_limit, real_limit, list_limit}
-use Rattle.paper_expressions.specs.Laws.Search.{no_clash}
+use Rattle.paper_expressions.proofs.Laws.Search.{no_clash}
 use Rattle.paper_expressions.specs.Values.{Scalar, unknown, truth, integer, real, text, Value, one, sequence}
 use Rattle.paper_expressions.specs.View.{At, at_first, at_later}
-use Rattle.paper_rows.specs.Laws.Lists.{at_below}
-use Rattle.paper_rows.specs.Laws.Booleans.{is_yes, is_no, is_false}
+use Rattle.paper_rows.proofs.Laws.Lists.{at_below}
+use Rattle.paper_rows.proofs.Laws.Booleans.{is_yes, is_no, is_false}
 use Rattle.paper_calls.specs.Calls.{SmallText, SmallScalar, small_unknown, small_truth, small_integer, small_real, small_text, Small, small_one, small_list}
 use Rattle.parts.specs.Texts.{cells, text_at_fn}
 use Rattle.waits.specs.Booleans.{Tests, is_as}

@@ -5,8 +5,8 @@ use Rattle.std.proofs.Common.{not-suc-le-zero, sym, ap₂, subst, ◌∙◌, eq-
 use Rattle.std.specs.Prelude.{◌≡◌, refl, Bool, true, false, cond, ◌&&◌, List, [], ◌∷◌, eqb, ltb, ℤ, pos, negsuc, nat_abs, get_or, length}
 use Rattle.std.proofs.Math.Path.{ap}
 use Rattle.std.proofs.Math.Option.{Option, none, some}
-use Rattle.paper_expressions.specs.Laws.Search.{no_clash}
-use Rattle.paper_expressions.specs.Laws.Tests.{contra}
+use Rattle.paper_expressions.proofs.Laws.Search.{no_clash}
+use Rattle.paper_expressions.proofs.Laws.Tests.{contra}
 use Rattle.paper_expressions.specs.Values.{Scalar, unknown, Value, one, sequence}
 use Rattle.std.specs.Int.Signed.{lt_z, non_neg}
 use Rattle.value_given.specs.Given.{is_one, handle_given, element_given, lent_f, element-at, elements, before, as_one, as-list, shaped, given}

@@ -12,7 +12,7 @@ use lib.Dec.{ltb}
 use borrow.Author.Tests.{lt-ltb, le-ltb}
 use Rattle.paper_expressions.specs.Bytes.{fold, folded}
 use Rattle.paper_expressions.specs.Operators as paper
-use Rattle.paper_expressions.specs.Laws.Compare.{order_t, byte, three}
+use Rattle.paper_expressions.proofs.Laws.Compare.{order_t, byte, three}
 use Rattle.paper_expressions.specs.Clauses.{Clause}
 use Rattle.numbers.specs.Signs.{signed, verdict}
 use Rattle.numbers.specs.declared.sign.Sign.TheVariants.{Greater, Less, Equal}

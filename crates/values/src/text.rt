@@ -2,7 +2,7 @@
 ghost use Rattle.std.specs.Prelude.{◌≡◌};
 ghost use Rattle.paper_expressions.specs.Bytes.{folded};
 ghost use Rattle.paper_expressions.specs.Limits.{text_limit};
-ghost use Rattle.paper_expressions.specs.Laws.Compare.{order_t};
+ghost use Rattle.paper_expressions.proofs.Laws.Compare.{order_t};
 ghost use Rattle.numbers.specs.Signs.{signed};
 ghost use Rattle.values.specs.Meaning.{bytes_of, handle_of, levelb};
 

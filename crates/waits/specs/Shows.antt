@@ -2,7 +2,7 @@
 use Rattle.std.specs.Prelude.{ℕ, zero, suc, ◌+◌, ◌-◌, ◌<◌, ◌≤◌, ◌≡◌, refl, Bool, true, false, not, ◌&&◌, ◌||◌, ◌↔◌, ◌⊎◌, List, [], ◌∷◌, eqb, leb, get_or}
 use Rattle.std.proofs.Common.{arith, sym, ap, subst, ◌∙◌, inl, inr, eq-eqb, eqb-true, le-leb, leb-true}
 use Rattle.std.proofs.Math.Option.{Option, none, some}
-use Rattle.paper_expressions.specs.Laws.Search.{no_clash}
+use Rattle.paper_expressions.proofs.Laws.Search.{no_clash}
 use Rattle.paper_expressions.specs.Values.{in_progress, discarded, completed, TaskState}
 use Rattle.paper_expressions.specs.View.{At}
 use Rattle.paper_rows.specs.Table.{task, Component, ◌№◌, state, antecedent_tasks, wait_condition, trigger_active, start_at, RowValue, state_is, time_is, component_is, components_are, truth_row, Table, Contains}

@@ -2,8 +2,8 @@
 use Rattle.std.specs.Prelude.{ℕ, ◌+◌, ◌*◌, ◌-◌, ◌≤◌, ◌<◌, ◌≡◌, refl, Bool, true, false, ◌||◌, List, [], ◌∷◌, eqb, get_or, set, length}
 use Rattle.std.proofs.Common.{arith, sym, ap, subst, ◌∙◌, ⊎_elim, get_or-set_same, get_or-set_other, eqb-true, eq-eqb, ne_eqb}
 use Rattle.std.proofs.Math.Decide.{dec_lt, ℕ_discrete}
-use Rattle.paper_expressions.specs.Laws.Tests.{contra, or_cases, or_l, or_r}
-use Rattle.paper_grammar.specs.Laws.Ll.{is_in}
+use Rattle.paper_expressions.proofs.Laws.Tests.{contra, or_cases, or_l, or_r}
+use Rattle.paper_grammar.proofs.Laws.Ll.{is_in}
 use Rattle.parts.specs.Items.{Found}
 use Rattle.waits.specs.Booleans.{Tests}
 use Rattle.waits.specs.Twins.{marked}

@@ -5,7 +5,7 @@ use Rattle.paper_expressions.specs.Bytes.{bytes}
 use Rattle.paper_expressions.specs.Limits.{text_limit}
 use Rattle.paper_expressions.specs.Types.{Ty, Text, Integer, Real, SetofText, SetofReal, SetofInteger, SetofAnything, TruthValue}
 use Rattle.paper_expressions.specs.Values.{Scalar, Value}
-use Rattle.paper_expressions.specs.Laws.WithinLimits.{Small, unknown_small, truth_small, integer_small, real_small, text_small, EachSmall, none_small, more_small, Limited, one_limited, list_limited}
+use Rattle.paper_expressions.proofs.Laws.WithinLimits.{Small, unknown_small, truth_small, integer_small, real_small, text_small, EachSmall, none_small, more_small, Limited, one_limited, list_limited}
 use Rattle.written.specs.Limit.{answer_limit}
 use Rattle.paper_guideline.specs.Line.{refused, gives, type_name, digits_in, digits_of, with_sign, with_point, scalar_written, more_written, value_written, answer_written}
 

@@ -1,7 +1,7 @@
 -- `gather`: the first value, the same again, or another.
 use native.Mathlib.Omega.{arith}
 use mathlib.Core.Path.{sym, ◌∙◌}
-use Rattle.paper_expressions.specs.Laws.Tests.{contra}
+use Rattle.paper_expressions.proofs.Laws.Tests.{contra}
 use Rattle.assigning.specs.Gather.{formed, gathers_first, gathers_same, gathers_other}
 use borrow.Author.Rules.{rules}
 use Rattle.assigning.proofs.gather.Statement.{statement}

@@ -1,7 +1,7 @@
 -- `same`: the cells, and then the bytes.
 use mathlib.Core.Path.{◌≡◌, sym, ◌∙◌}
 use mathlib.Core.Bool.{true}
-use Rattle.paper_expressions.specs.Laws.Tests.{contra}
+use Rattle.paper_expressions.proofs.Laws.Tests.{contra}
 use borrow.Author.Rules.{rules}
 use Rattle.assigning.proofs.same.Statement.{statement}
 use Rattle.assigning.proofs.same.Tie as tie

@@ -5,12 +5,12 @@ use Prim.Native.Nat.{ℕ, ◌+◌, ◌*◌, ◌-◌, ◌≤◌, ◌<◌}
 use native.Mathlib.Omega.{arith}
 use lib.ListN.{length, length-set}
 use borrow.Author.Tests.{not-false, not-true}
-use Rattle.paper_expressions.specs.Laws.Tests.{contra}
+use Rattle.paper_expressions.proofs.Laws.Tests.{contra}
 use Rattle.paper_expressions.specs.Expressions.{Expr, Exprs}
 use Rattle.paper_tokens.specs.Lexical.{Token}
 use Rattle.paper_tokens.specs.Terminals.{Terminal}
 use Rattle.paper_guideline.specs.Tree.{Tree, Trees}
-use Rattle.paper_guideline.specs.Laws.TreeLaws.{Ends}
+use Rattle.paper_guideline.proofs.Laws.TreeLaws.{Ends}
 use Rattle.leaves.specs.Source.{source}
 use Rattle.expression_steps.specs.Rows.{Beside, beside_none, beside_on, beside_thrice, beside_more}
 use Rattle.expression_steps.specs.Levels.{where_of, kind_inside}

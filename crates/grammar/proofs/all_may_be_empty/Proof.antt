@@ -5,8 +5,8 @@ use Prim.Native.Nat.{ℕ, ◌≤◌, ◌<◌, ◌-◌}
 use mathlib.Core.Path.{◌≡◌, refl, sym, ap, ◌∙◌}
 use lib.ListN.{length}
 use borrow.Author.Tests.{not-true, not-false}
-use Rattle.paper_grammar.specs.Laws.Ll.{blank}
-use Rattle.paper_grammar.specs.Laws.Form.{G}
+use Rattle.paper_grammar.proofs.Laws.Ll.{blank}
+use Rattle.paper_grammar.proofs.Laws.Form.{G}
 use Rattle.grammar.proofs.MachineLaws.{syms, blank_token, blank_symbol, blank_end}
 use Rattle.grammar.proofs.all_may_be_empty.Statement.{statement}
 use Rattle.grammar.proofs.all_may_be_empty.Tie as tie

@@ -1,7 +1,7 @@
 -- `code` is the byte of each start symbol.
 use borrow.Author.Rules.{rules}
 use mathlib.Core.Path.{sym, ap}
-use Rattle.paper_grammar.specs.Laws.Ll.{N}
+use Rattle.paper_grammar.proofs.Laws.Ll.{N}
 use Rattle.grammar.specs.declared.Start.{Start}
 use Rattle.grammar.specs.Reply.{form_of}
 use Rattle.grammar.proofs.code.Statement.{statement}

@@ -1,7 +1,7 @@
 -- `spelt`: a token's bytes stand in the text, and its name inside its quotes.
 use mathlib.Core.Path.{sym, ◌∙◌}
 use native.Mathlib.Omega.{arith}
-use Rattle.paper_expressions.specs.Laws.Tests.{contra}
+use Rattle.paper_expressions.proofs.Laws.Tests.{contra}
 use Rattle.guideline_rows.specs.Flags.{spelt_there}
 use borrow.Author.Rules.{rules}
 use Rattle.guideline_rows.proofs.spelt.Statement.{statement}

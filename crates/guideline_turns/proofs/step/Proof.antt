@@ -1,6 +1,6 @@
 -- `step`: by the mode.
 use mathlib.Core.Path.{sym, ap, ◌∙◌}
-use Rattle.paper_expressions.specs.Laws.Tests.{contra}
+use Rattle.paper_expressions.proofs.Laws.Tests.{contra}
 use Rattle.guideline_turns.specs.Made.{mode_of}
 use Rattle.guideline_turns.specs.TurnLaws.{same_mode, too_far, behind_mode}
 use borrow.Author.Rules.{rules}

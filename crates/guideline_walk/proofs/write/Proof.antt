@@ -1,7 +1,7 @@
 -- `write`: no row, or its name, its texts, its cells and its totals, one after the other.
 use mathlib.Core.Path.{refl, sym, ◌∙◌}
 use borrow.Author.Tests.{not-true, not-false}
-use Rattle.paper_expressions.specs.Laws.Tests.{contra}
+use Rattle.paper_expressions.proofs.Laws.Tests.{contra}
 use Rattle.guideline_walk.specs.TotalLaws.{adds_own}
 use Rattle.guideline_walk.specs.TextLaws.{row_laid}
 use borrow.Author.Rules.{rules}

@@ -2,7 +2,7 @@
 use Rattle.std.specs.Prelude.{ℕ, zero, suc, ◌+◌, ◌-◌, ◌≤◌, ◌<◌, ◌≡◌, refl, Bool, true, false, ◌&&◌, List, [], ◌∷◌, eqb, length, get_or}
 use Rattle.std.proofs.Common.{sym, ap, subst, ◌∙◌, arith, eqb-true}
 use Rattle.std.proofs.Math.Decide.{dec_lt}
-use Rattle.paper_expressions.specs.Laws.Tests.{and_l, and_r}
+use Rattle.paper_expressions.proofs.Laws.Tests.{and_l, and_r}
 use Rattle.plan.specs.Writes
 use Writes.{Column, task_count, item_count, parent, triggered, terminal, order, confirms, class, first_source, source_count, source_item, mandatory, precondition, wait_condition, terminate, first_assignment, assignment_count, target, assigned-end, name, trigger, item_name, item_type, assigned_by}
 use Writes.{Cells, first, room}

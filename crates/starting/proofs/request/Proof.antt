@@ -1,7 +1,7 @@
 use mathlib.Core.Path.{◌≡◌, sym, ◌∙◌}
 use mathlib.Core.Bool.{true}
 use native.Mathlib.Omega.{arith}
-use Rattle.paper_expressions.specs.Laws.Search.{no_clash}
+use Rattle.paper_expressions.proofs.Laws.Search.{no_clash}
 use Rattle.starting.specs.StartRows.{requested_f, request_none, request_more}
 use borrow.Author.Rules.{rules}
 use Rattle.starting.proofs.request.Statement.{statement}

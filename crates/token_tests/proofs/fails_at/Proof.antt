@@ -2,7 +2,7 @@
 use mathlib.Core.Path.{◌≡◌, sym, ◌∙◌}
 use Prim.Native.Nat.{◌+◌}
 use lib.ListN.{get_or}
-use Rattle.paper_expressions.specs.Laws.Tests.{contra}
+use Rattle.paper_expressions.proofs.Laws.Tests.{contra}
 use Rattle.parts.specs.Texts.{cells}
 use Rattle.leaves.specs.Source.{source}
 use Rattle.token_tests.specs.Walk.{of_inside, of_outside}

@@ -2,7 +2,7 @@
 use native.Mathlib.Omega.{arith}
 use mathlib.Core.Path.{sym, ◌∙◌}
 use borrow.Author.Rules.{rules}
-use Rattle.paper_expressions.specs.Laws.Tests.{contra}
+use Rattle.paper_expressions.proofs.Laws.Tests.{contra}
 use Rattle.token_tests.proofs.limit_at.Statement.{statement}
 use Rattle.token_tests.proofs.limit_at.Tie as tie
 

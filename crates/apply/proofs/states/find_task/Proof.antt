@@ -6,7 +6,7 @@ use native.Mathlib.Omega.{arith}
 use lib.ListN.{length}
 use borrow.Author.Count.{below_more}
 use borrow.Author.Rules.{rules}
-use Rattle.paper_expressions.specs.Laws.Tests.{contra}
+use Rattle.paper_expressions.proofs.Laws.Tests.{contra}
 use Rattle.apply.specs.Tasks.{namedb}
 use Rattle.apply.specs.TaskLaws.{asked_name, root_unnamed}
 use Rattle.apply.proofs.states.find_task.Statement.{statement}

@@ -1,7 +1,7 @@
 -- `is_in`: by the variant of the operand; only a text names a task.
 use mathlib.Core.Path.{sym, ◌∙◌}
 use borrow.Author.Rules.{rules}
-use Rattle.paper_expressions.specs.Laws.Search.{no_clash}
+use Rattle.paper_expressions.proofs.Laws.Search.{no_clash}
 use Rattle.apply.specs.IsIn.{asked_text, asked_other}
 use Rattle.apply.proofs.states.is_in.Statement.{statement}
 use Rattle.apply.proofs.states.is_in.Tie as tie

@@ -2,7 +2,7 @@
 use mathlib.Core.Path.{◌≡◌, sym, ap, ◌∙◌}
 use mathlib.Core.Bool.{false}
 use lib.IntN.{ℤ}
-use Rattle.paper_expressions.specs.Laws.Only.{zero_z}
+use Rattle.paper_expressions.proofs.Laws.Only.{zero_z}
 use Rattle.paper_expressions.specs.Operators.{cut}
 use Rattle.values.specs.Meaning.{real_of_fn}
 use borrow.Author.Rules.{rules}

@@ -1,7 +1,7 @@
 -- `name`: the token's bytes without their quotes, folded; none where they are not in the text.
 use mathlib.Core.Path.{sym, ◌∙◌}
 use borrow.Author.Tests.{not-true, not-false}
-use Rattle.paper_expressions.specs.Laws.Tests.{contra}
+use Rattle.paper_expressions.proofs.Laws.Tests.{contra}
 use Rattle.bare_names.specs.ToldLaws.{named_none, named_some}
 use borrow.Author.Rules.{rules}
 use Rattle.bare_names.proofs.told.name.Statement.{statement}

@@ -1,7 +1,7 @@
 -- `calls`: by the tests that the code makes.
 use mathlib.Core.Path.{sym, ◌∙◌}
 use native.Mathlib.Omega.{arith}
-use Rattle.paper_expressions.specs.Laws.Tests.{contra}
+use Rattle.paper_expressions.proofs.Laws.Tests.{contra}
 use Rattle.expression_steps.specs.Levels.{kind_inside}
 use borrow.Author.Rules.{rules}
 use Rattle.expression_reader.proofs.single.calls.Statement.{statement}

@@ -1,7 +1,7 @@
 -- `closed`: the row behind those of the elements, and their measures with one part more.
 use mathlib.Core.Path.{refl, sym, ◌∙◌}
 use native.Mathlib.Omega.{arith}
-use Rattle.paper_expressions.specs.Laws.Tests.{contra}
+use Rattle.paper_expressions.proofs.Laws.Tests.{contra}
 use Rattle.expression_steps.specs.Rows.{beside_none}
 use Rattle.expression_steps.specs.Levels.{stand_length}
 use Rattle.expression_reader.specs.Laws.{closed_done}

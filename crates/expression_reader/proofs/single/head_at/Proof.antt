@@ -1,6 +1,6 @@
 -- `head_at`: the token's bytes are in the text, and say what they say.
 use mathlib.Core.Path.{sym, ◌∙◌}
-use Rattle.paper_expressions.specs.Laws.Tests.{contra}
+use Rattle.paper_expressions.proofs.Laws.Tests.{contra}
 use Rattle.expression_reader.specs.Laws.{said_head, token_fits}
 use borrow.Author.Rules.{rules}
 use Rattle.expression_reader.proofs.single.head_at.Statement.{statement}

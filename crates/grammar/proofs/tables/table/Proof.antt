@@ -1,6 +1,6 @@
 -- `tables::table` meets its contract: its bytes are Form's lists, by one computed equality.
 use mathlib.Core.Path.{refl}
-use Rattle.paper_grammar.specs.Laws.Form.{rows, blanks}
+use Rattle.paper_grammar.proofs.Laws.Form.{rows, blanks}
 use Rattle.grammar.specs.Tables.{alternatives, alternatives_table, rows_table, empty_table, table}
 use Rattle.grammar.proofs.tables.table.Statement.{statement}
 use Rattle.grammar.proofs.tables.table.Tie as tie

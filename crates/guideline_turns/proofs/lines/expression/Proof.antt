@@ -2,7 +2,7 @@
 use mathlib.Core.Path.{refl, sym, ◌∙◌}
 use native.Mathlib.Omega.{arith}
 use borrow.Author.Tests.{not-true, not-false}
-use Rattle.paper_expressions.specs.Laws.Tests.{contra}
+use Rattle.paper_expressions.proofs.Laws.Tests.{contra}
 use Rattle.guideline_turns.specs.TurnLaws.{read_went, expression_read, expression_gives}
 use borrow.Author.Rules.{rules}
 use Rattle.guideline_turns.proofs.lines.expression.Statement.{statement}

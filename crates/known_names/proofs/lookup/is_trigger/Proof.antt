@@ -2,7 +2,7 @@
 use mathlib.Core.Path.{sym, ap, ◌∙◌}
 use Prim.Native.Nat.{ℕ}
 use borrow.Author.Tests.{not-true, not-false}
-use Rattle.paper_expressions.specs.Laws.Search.{sameb}
+use Rattle.paper_expressions.proofs.Laws.Search.{sameb}
 use Rattle.parts.specs.Texts.{text_at_fn}
 use borrow.Author.Rules.{rules}
 use Rattle.known_names.proofs.lookup.is_trigger.Statement.{statement}

@@ -4,7 +4,7 @@ use native.Mathlib.Omega.{arith}
 use mathlib.Core.Path.{◌≡◌, sym, ◌∙◌}
 use lib.ListN.{length, get_or}
 use borrow.Author.Rules.{rules}
-use Rattle.paper_expressions.specs.Laws.Search.{sameb}
+use Rattle.paper_expressions.proofs.Laws.Search.{sameb}
 use Rattle.parts.specs.Texts.{cells}
 use Rattle.leaves.specs.Cells.{same_parts}
 use Rattle.leaves.specs.Places.{entry, Rows, place_from, found, passed, none_left}

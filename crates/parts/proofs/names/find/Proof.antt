@@ -6,8 +6,8 @@ use native.Mathlib.Omega.{arith}
 use lib.ListN.{length, get_or}
 use borrow.Author.Count.{below_more}
 use borrow.Author.Rules.{rules}
-use Rattle.paper_expressions.specs.Laws.Tests.{contra}
-use Rattle.paper_expressions.specs.Laws.Search.{alikeb}
+use Rattle.paper_expressions.proofs.Laws.Tests.{contra}
+use Rattle.paper_expressions.proofs.Laws.Search.{alikeb}
 use Rattle.parts.specs.Texts.{text_at_fn}
 use Rattle.parts.proofs.names.find.Statement.{statement}
 use Rattle.parts.proofs.names.find.Tie as tie

@@ -1,6 +1,6 @@
 -- `replay`: by the test whether it is a script.
 use mathlib.Core.Path.{◌≡◌, refl, sym, ◌∙◌}
-use Rattle.paper_expressions.specs.Laws.Tests.{contra}
+use Rattle.paper_expressions.proofs.Laws.Tests.{contra}
 use borrow.Author.Rules.{rules}
 use Rattle.replay.proofs.scripts.replay.Statement.{statement}
 use Rattle.replay.proofs.scripts.replay.Tie as tie

@@ -3,7 +3,7 @@ use mathlib.Core.Path.{◌≡◌, sym, ap, ◌∙◌}
 use Prim.Native.Nat.{◌+◌, ◌/◌, ◌≤◌}
 use native.Mathlib.Omega.{arith}
 use borrow.Author.Rules.{rules}
-use Rattle.paper_expressions.specs.Laws.Search.{sameb}
+use Rattle.paper_expressions.proofs.Laws.Search.{sameb}
 use Rattle.parts.specs.Texts.{cells, text_at_fn}
 use Rattle.row_tests.specs.Equal.{same_step, same_stop, same_end, same_long}
 use Rattle.row_tests.proofs.texts.same.Statement.{statement}

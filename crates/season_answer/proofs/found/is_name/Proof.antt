@@ -4,7 +4,7 @@ use Prim.Native.Nat.{ℕ, ◌+◌, ◌-◌, ◌≤◌, ◌/◌, ◌%◌}
 use mathlib.Core.Path.{◌≡◌, sym, ap, ◌∙◌}
 use native.Mathlib.Omega.{arith}
 use lib.ListN.{length, drop}
-use Rattle.paper_expressions.specs.Laws.Search.{alikeb}
+use Rattle.paper_expressions.proofs.Laws.Search.{alikeb}
 use Rattle.parts.specs.Texts.{cells}
 use Rattle.season_answer.specs.ColumnsLaws.{name_long, name_from, name_end, name_other, name_same}
 use Rattle.season_answer.proofs.found.is_name.Statement.{statement}

@@ -3,7 +3,7 @@ use borrow.Author.Rules.{rules}
 use Prim.Native.Nat.{ℕ, ◌-◌, ◌≤◌}
 use mathlib.Core.Path.{◌≡◌, sym, ap, ◌∙◌}
 use native.Mathlib.Omega.{arith}
-use Rattle.paper_expressions.specs.Laws.Search.{alikeb}
+use Rattle.paper_expressions.proofs.Laws.Search.{alikeb}
 use Rattle.parts.specs.Texts.{text_at_fn}
 use Rattle.season_answer.specs.Columns.{first_from, has_name, item_count}
 use Rattle.season_answer.specs.ColumnsLaws.{first_past, first_here, first_later, none_off}

@@ -3,7 +3,7 @@ use mathlib.Core.Path.{sym, ap, ◌∙◌}
 use mathlib.Core.List.{List}
 use Prim.Native.Nat.{ℕ}
 use Rattle.paper_expressions.specs.Values as paper
-use Rattle.paper_expressions.specs.Laws.Only.{nth_l}
+use Rattle.paper_expressions.proofs.Laws.Only.{nth_l}
 use Rattle.values.specs.declared.scalar.Scalar.{Scalar}
 use Rattle.values.specs.declared.list.List as Code
 use Rattle.values.specs.Meaning.{meaning, meaning_l}

@@ -4,7 +4,7 @@ use mathlib.Core.Path.{◌≡◌, sym, ◌∙◌}
 use mathlib.Core.Bool.{true, false}
 use native.Mathlib.Omega.{arith}
 use borrow.Author.Count.{below_none, below_more}
-use Rattle.paper_expressions.specs.Laws.Only.{bestb}
+use Rattle.paper_expressions.proofs.Laws.Only.{bestb}
 use Rattle.values.specs.Meaning.{meaning_l, size_of}
 use Rattle.operators.specs.Means.{end}
 use Rattle.sequences.proofs.Elements.{first_best, no_best}

@@ -6,7 +6,7 @@ use native.Mathlib.Omega.{arith}
 use borrow.Author.Count.{below_none, below_more}
 use lib.ListN.{get_or, length}
 use Rattle.paper_expressions.specs.Values.{unknown}
-use Rattle.paper_expressions.specs.Laws.Only.{missb}
+use Rattle.paper_expressions.proofs.Laws.Only.{missb}
 use Rattle.values.specs.Meaning.{meaning_l, meaning_v, size_of}
 use Rattle.values.proofs.Lists.{size_is}
 use Rattle.sequences.proofs.Scans.{all_hold, one_fails}

@@ -2,7 +2,7 @@
 use mathlib.Core.Path.{refl}
 use mathlib.Core.Logic.{inl}
 use native.Mathlib.Omega.{arith}
-use Rattle.paper_expressions.specs.Laws.Tests.{contra}
+use Rattle.paper_expressions.proofs.Laws.Tests.{contra}
 use Rattle.spot.proofs.seen.nothing.Statement.{statement}
 use Rattle.spot.proofs.seen.nothing.Tie as tie
 
