@@ -221,17 +221,24 @@ module _ (ts : List Ty) (few : length ts ≤ 3) where
 not_fresh : {us : List Ty} {t : Ty} (l : List Allowed) → T (fresh us l) → ¬ Among (us ⇒ t) l
 not_fresh {us} ((ws ⇒ w) ∷ l) h here = absurd (subst (λ (b : Bool). T (not b && fresh us l)) (reflects_true (same_reflects (slots 3 us) (slots 3 us)) refl) h)
 not_fresh {us} ((ws ⇒ w) ∷ l) h (there k) = not_fresh l (split (not (sameb (slots 3 us) (slots 3 ws))) (fresh us l) h).1 k
+not_fresh {us = us} {t = t} [] h x'' = elim x'' [ ]
+
+-- at two lists of operands, which are the same
+same_entry : {ts vs : List Ty} {t u : Ty} (l : List Allowed) → T (plain l) → Among (ts ⇒ t) l → Among (vs ⇒ u) l → ts ≡ vs → t ≡ u
+same_entry [] h j k e = elim j [ ]
+same_entry ((us ⇒ w) ∷ l) h here here e = refl
+same_entry {u = u} ((us ⇒ w) ∷ l) h here (there k) e = absurd (not_fresh l (split (fresh us l) (plain l) (split (leb (length us) 3) (fresh us l && plain l) h).1).0 (subst (λ (x : List Ty). Among (x ⇒ u) l) (sym e) k))
+same_entry {t = t} ((us ⇒ w) ∷ l) h (there k) here e = absurd (not_fresh l (split (fresh us l) (plain l) (split (leb (length us) 3) (fresh us l && plain l) h).1).0 (subst (λ (x : List Ty). Among (x ⇒ t) l) e k))
+same_entry ((us ⇒ w) ∷ l) h (there j) (there k) e = same_entry l (split (fresh us l) (plain l) (split (leb (length us) 3) (fresh us l && plain l) h).1).1 j k e
 
 pub one_entry : {ts : List Ty} {t u : Ty} (l : List Allowed) → T (plain l) → Among (ts ⇒ t) l → Among (ts ⇒ u) l → t ≡ u
-one_entry ((us ⇒ w) ∷ l) h here here = refl
-one_entry ((us ⇒ w) ∷ l) h here (there k) = absurd (not_fresh l (split (fresh us l) (plain l) (split (leb (length us) 3) (fresh us l && plain l) h).1).0 k)
-one_entry ((us ⇒ w) ∷ l) h (there k) here = absurd (not_fresh l (split (fresh us l) (plain l) (split (leb (length us) 3) (fresh us l && plain l) h).1).0 k)
-one_entry ((us ⇒ w) ∷ l) h (there j) (there k) = one_entry l (split (fresh us l) (plain l) (split (leb (length us) 3) (fresh us l && plain l) h).1).1 j k
+one_entry l h j k = same_entry l h j k refl
 
 -- more operands than any entry has
 pub too_many : {ts : List Ty} {t : Ty} (l : List Allowed) → T (plain l) → 3 < length ts → ¬ Among (ts ⇒ t) l
 too_many ((us ⇒ w) ∷ l) h m here = absurd (let k = short (length us) (split (leb (length us) 3) (fresh us l && plain l) h).0 in omega arith)
 too_many ((us ⇒ w) ∷ l) h m (there k) = too_many l (split (fresh us l) (plain l) (split (leb (length us) 3) (fresh us l && plain l) h).1).1 m k
+too_many {ts = ts} {t = t} [] h m x3 = elim x3 [ ]
 
 as_many : {ts us : List Ty} → Reaches ts us → length ts ≡ length us
 as_many reaches_none = refl
@@ -241,3 +248,4 @@ as_many (reaches_by h k) = ap suc (as_many k)
 pub too_many_first : {ts : List Ty} {t : Ty} (l : List Allowed) → T (plain l) → 3 < length ts → ¬ First ts l t
 too_many_first ((us ⇒ w) ∷ l) h m (first k) = absurd (let j = short (length us) (split (leb (length us) 3) (fresh us l && plain l) h).0 in omega (arith, as_many k))
 too_many_first ((us ⇒ w) ∷ l) h m (next n k) = too_many_first l (split (fresh us l) (plain l) (split (leb (length us) 3) (fresh us l && plain l) h).1).1 m k
+too_many_first {ts = ts} {t = t} [] h m x3 = elim x3 [ ]
