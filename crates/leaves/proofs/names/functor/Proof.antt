@@ -17,18 +17,18 @@ place-in-requires c κs = (
 )
 
 -- the place is that among the names of the definition
-placed : (c : tie.After-place_in-i) → c.IsPlace-in.result ≡ place_from name_at (cells c.before.before.before.before.before.before.args.text.now c.before.before.before.before.before.before.args.at c.before.before.before.before.before.before.args.n) 0 13
-placed c = rw (sym c.before.before.before.before.names-names.ensures, sym c.before.before.before.lengths-lengths.ensures) c.IsPlace-in.ensures
+placed : (c : tie.After-place_in-i) → c.place_in-i.result ≡ place_from name_at (cells c.before.before.before.before.before.before.args.text.now c.before.before.before.before.before.before.args.at c.before.before.before.before.before.before.args.n) 0 13
+placed c = rw (sym c.before.before.before.before.names-names.ensures, sym c.before.before.before.lengths-lengths.ensures) c.place_in-i.ensures
 
 returns : tie.Need-returns-then-i-lt-FUNCTORS
 returns c =
     let a = c.before.before.before.before.before.before.before.before.args in
-    c.code.ensures ∙ code_at (cells a.text.now a.at a.n) c.before.before.IsPlace-in.result (placed c.before.before) c.before.if-i-lt-FUNCTORS.true
+    c.code.ensures ∙ code_at (cells a.text.now a.at a.n) c.before.before.place_in-i.result (placed c.before.before) c.before.if-i-lt-FUNCTORS.true
 
 returns-2 : tie.Need-returns
 returns-2 c =
     let a = c.before.before.before.before.before.before.before.args in
-    code_none (cells a.text.now a.at a.n) c.before.IsPlace-in.result (placed c.before) c.if-i-lt-FUNCTORS.false
+    code_none (cells a.text.now a.at a.n) c.before.place_in-i.result (placed c.before) c.if-i-lt-FUNCTORS.false
 
 pub functor_spec : {M : Type 1} → statement M
 functor_spec =

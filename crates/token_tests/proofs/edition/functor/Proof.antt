@@ -19,8 +19,8 @@ place-in-requires c κs = (
 )
 
 -- the place is that among the names of the definition
-placed : (c : tie.After-place_in) → c.IsPlace-in.result ≡ place_from name_at (cells c.before.before.before.before.before.before.args.text.now c.before.before.before.before.before.before.args.at c.before.before.before.before.before.before.args.n) 0 16
-placed c = rw (sym c.before.before.before.before.names-names.ensures, sym c.before.before.before.lengths-lengths.ensures) c.IsPlace-in.ensures
+placed : (c : tie.After-place_in) → c.place_in.result ≡ place_from name_at (cells c.before.before.before.before.before.before.args.text.now c.before.before.before.before.before.before.args.at c.before.before.before.before.before.before.args.n) 0 16
+placed c = rw (sym c.before.before.before.before.names-names.ensures, sym c.before.before.before.lengths-lengths.ensures) c.place_in.ensures
 
 returns : tie.Need-returns
 returns c =
