@@ -16,24 +16,24 @@ abbrev decreases-loop : tie.decreases-loop-t
 decreases-loop s₀ n t₀ s t = n - t
 
 returns : tie.Need-returns-then-s-lt-LEAST invariant-loop decreases-loop
-returns c = too_short c.before.before.before.before.before.before.args.s-1.now c.before.before.before.clear.new.0 c.before.before.before.before.before.before.args.n c.before.before.before.clear.ensures c.if-s-lt-LEAST.true
+returns c = too_short c.before.before.before.before.before.before.args.s.now c.before.before.before.clear.new.cells c.before.before.before.before.before.before.args.n c.before.before.before.clear.ensures c.if-s-lt-LEAST.true
 
 loop-holds : tie.Need-loop-t-init invariant-loop decreases-loop
 loop-holds c =
-    let l : length (set c.before.before.before.clear.new.0 0 1) ≡ length c.before.before.before.clear.new.0 = length-set c.before.before.before.clear.new.0 0 1 in
-    (refl, omega arith, omega arith, λ k. first_cell c.before.before.before.clear.new.0 c.before.before.before.before.before.before.args.s-1.now c.before.before.before.clear.ensures (omega arith))
+    let l : length (set c.before.before.before.clear.new.cells 0 1) ≡ length c.before.before.before.clear.new.cells = length-set c.before.before.before.clear.new.cells 0 1 in
+    (refl, omega arith, omega arith, λ k. first_cell c.before.before.before.clear.new.cells c.before.before.before.before.before.before.args.s.now c.before.before.before.clear.ensures (omega arith))
 
 loop-again : tie.Need-loop-t-preserved invariant-loop decreases-loop
 loop-again c =
     let i = c.before.before.before.before.before.loop-t.invariant in
     let d = c.before.before.dormant.ensures in
-    (d.size ∙ i.0, (let z = d.size in let y = i.1 in omega arith), omega arith, λ k. one_more c.before.before.before.before.before.loop-t.s-1 c.before.before.dormant.new.0 c.before.before.before.before.before.loop-t.t i.1 (omega arith) (i.3 (omega arith)) d)
+    (d.size ∙ i.0, (let z = d.size in let y = i.1 in omega arith), omega arith, λ k. one_more c.before.before.before.before.before.loop-t.s c.before.before.dormant.new.s c.before.before.before.before.before.loop-t.t i.1 (omega arith) (i.3 (omega arith)) d)
 
 same-length-2 : tie.Need-shape_of-s invariant-loop decreases-loop
-same-length-2 c = c.before.loop-t.invariant.0 ∙ length-set c.before.before.before.before.before.clear.new.0 0 1 ∙ zeros_long c.before.before.before.before.before.clear.new.0 c.before.before.before.before.before.before.before.before.args.s-1.now c.before.before.before.before.before.clear.ensures
+same-length-2 c = c.before.loop-t.invariant.0 ∙ length-set c.before.before.before.before.before.clear.new.cells 0 1 ∙ zeros_long c.before.before.before.before.before.clear.new.cells c.before.before.before.before.before.before.before.before.args.s.now c.before.before.before.before.before.clear.ensures
 
 returns-2 : tie.Need-returns invariant-loop decreases-loop
-returns-2 c = all_open c.before.before.before.before.before.before.before.before.args.s-1.now c.before.before.before.before.before.clear.new.0 c.before.loop-t.s-1 c.before.before.before.before.before.before.before.before.args.n c.before.loop-t.t c.before.before.before.before.before.clear.ensures c.before.loop-t.invariant.0 (omega arith) c.before.loop-t.invariant.3
+returns-2 c = all_open c.before.before.before.before.before.before.before.before.args.s.now c.before.before.before.before.before.clear.new.cells c.before.loop-t.s c.before.before.before.before.before.before.before.before.args.n c.before.loop-t.t c.before.before.before.before.before.clear.ensures c.before.loop-t.invariant.0 (omega arith) c.before.loop-t.invariant.3
 
 pub open_spec : {M : Type 1} → statement M
 open_spec =
