@@ -103,6 +103,7 @@ module _ {s : List ℕ} {t : Table} (rows : Rows s t) where
 
             to : Again ⊎ ⊥ → InitialiseConditions t now T
             to (inl z) = initialise_1 z.0 z.1.0 z.1.1
+            to (inr x5) = elim x5 [ ]
 
             back : InitialiseConditions t now T → Again ⊎ ⊥
             back (initialise_1 x y z) = inl (x, (y, z))

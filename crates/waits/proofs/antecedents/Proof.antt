@@ -16,10 +16,10 @@ loop-holds : tie.Need-loop-a-init invariant-loop decreases-loop
 loop-holds c = (omega arith, upto_none _ _ _ refl refl refl refl)
 
 loop-again : tie.Need-loop-a-preserved invariant-loop decreases-loop
-loop-again c = (omega arith, upto_more c.before.before.before.before.args.s.now c.before.before.before.before.args.t2 c.before.before.loop-a.a c.before.before.loop-a.b c.noted-b.result refl c.before.before.loop-a.invariant.1 c.noted-b.ensures)
+loop-again c = (omega arith, upto_more c.before.before.before.before.args.s.now c.before.before.before.before.args.row c.before.before.loop-a.a c.before.before.loop-a.b c.noted-b.result refl c.before.before.loop-a.invariant.1 c.noted-b.ensures)
 
 returns : tie.Need-returns invariant-loop decreases-loop
-returns c = upto_all c.before.before.before.args.s.now c.before.before.before.args.t2 c.before.loop-a.a c.before.loop-a.b (omega arith) c.before.loop-a.invariant.1
+returns c = upto_all c.before.before.before.args.s.now c.before.before.before.args.row c.before.loop-a.a c.before.loop-a.b (omega arith) c.before.loop-a.invariant.1
 
 pub antecedents_spec : {M : Type 1} → statement M
 antecedents_spec =
