@@ -1,6 +1,6 @@
 -- Rows and their numbers, four a row: the rows that are appended are those of the numbers, and the numbers that are taken back are theirs. By the four numbers of a row.
 use Rattle.std.specs.Prelude.{ℕ, ◌+◌, ◌*◌, ◌<◌, ◌≤◌, ◌≡◌, refl, List, length, get_or, set}
-use Rattle.std.proofs.Common.{arith, sym, ap, subst, ◌∙◌, length-set, get_or-set_same, get_or-set_other}
+use Rattle.std.proofs.Common.{arith, ap, subst, ◌∙◌, length-set, get_or-set_same, get_or-set_other}
 use Rattle.std.proofs.Math.Decide.{dec_lt}
 use Rattle.change_rows.specs.declared.Row.{Row}
 use Rattle.change_rows.specs.Blank.{blank}

@@ -29,10 +29,10 @@ loop-again c =
     let a = c.before.before.before.args in
     let lp = c.before.before.loop-k in
     let size = lp.invariant.1 in
-    (omega arith, length-set lp.r-1 lp.k _ ∙ size, upto_more (byte_of a.t1) 0 lp.r-1 lp.k (omega arith) (byte-bit (mark_at a.t1 lp.k)) lp.invariant.2)
+    (omega arith, length-set lp.r lp.k _ ∙ size, upto_more (byte_of a.w) 0 lp.r lp.k (omega arith) (byte-bit (mark_at a.w lp.k)) lp.invariant.2)
 
 returns : tie.Need-returns invariant-loop decreases-loop
-returns c = let lp = c.before.loop-k in packed_all c.before.before.args.t1 lp.r-1 lp.k lp.invariant.1 (omega arith) lp.invariant.2
+returns c = let lp = c.before.loop-k in packed_all c.before.before.args.w lp.r lp.k lp.invariant.1 (omega arith) lp.invariant.2
 
 pub pack_spec : {M : Type 1} → statement M
 pack_spec =
