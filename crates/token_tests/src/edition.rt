@@ -23,6 +23,7 @@ const NAMES: [u8; BYTES] =
 const LENGTHS: [usize; FUNCTORS] = [16, 14, 14, 5, 4, 9, 3, 3, 2, 3, 3, 3, 4, 4, 4, 6];
 
 // Whether a terminal is a reserved word or symbol that is left out.
+#[tactic(auto, unfolding(paper_guideline::specs::LeftOut::left_out_words))]
 pub fn is_word(k: u8) -> bool
     ensures { result ≡ is_in k left_out_words }
 {

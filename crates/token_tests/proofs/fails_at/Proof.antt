@@ -12,7 +12,7 @@ use Rattle.token_tests.proofs.fails_at.Statement.{statement}
 use Rattle.token_tests.proofs.fails_at.Tie as tie
 
 fails-requires : tie.Need-fails-requires
-fails-requires c κs = c.before.before.before.fits2.ensures.0 c.before.before.if-fits.true
+fails-requires c κs = c.before.before.before.fits.ensures.0 c.before.before.if-fits.true
 
 returns : tie.Need-returns-then-fits
 returns c =
@@ -25,7 +25,7 @@ returns c =
     let next = get_or a.kinds.now (a.i + 1) 0 in
     let e : fails_of a.test c.before.before.byte.result c.before.byte-then-fits.result w ≡ fails_of a.test k next w = rw (c.before.before.byte.ensures, c.before.byte-then-fits.ensures) in
     c.fails.ensures ∙ e
-    ∙ sym (of_inside s a.i (fails_of a.test k next) at.result n.result at.ensures n.ensures (c.before.before.before.before.fits2.ensures.0 c.before.before.before.if-fits.true))
+    ∙ sym (of_inside s a.i (fails_of a.test k next) at.result n.result at.ensures n.ensures (c.before.before.before.before.fits.ensures.0 c.before.before.before.if-fits.true))
 
 returns-2 : tie.Need-returns
 returns-2 c =
@@ -34,7 +34,7 @@ returns-2 c =
     let n = c.before.before.cell-n in
     let s = source a.text.now a.kinds.now a.places.now a.lengths.now in
     sym (of_outside s a.i (fails_of a.test (get_or a.kinds.now a.i 0) (get_or a.kinds.now (a.i + 1) 0)) at.result n.result at.ensures n.ensures
-    (λ h. contra (sym c.if-fits.false ∙ c.before.fits2.ensures.1 h)))
+    (λ h. contra (sym c.if-fits.false ∙ c.before.fits.ensures.1 h)))
 
 pub fails_at_spec : {M : Type 1} → statement M
 fails_at_spec =
