@@ -129,6 +129,7 @@ generic_element b e h = go b.what e h
     go (trigger n) e h = contra e
     go (component n xs) e h = contra e
     go (source n xs) e h = contra e
+    go (generic g) e (at_later {i = i} x10) = elim x10 [ ]
 
 item_in : (g : List TopLevel) (i : ℕ) (d : DataItem) → At (data_items g) i d → (k : ℕ) × At g k (data_item d)
 item_in (task t ∷ g) i d h = let r = item_in g i d h in (suc r.0, at_later r.1)
@@ -137,6 +138,7 @@ item_in (data_item e ∷ g) i d h = go h (λ m k. item_in g m d k)
     go : {i : ℕ} {d : DataItem} → At (e ∷ data_items g) i d → ((m : ℕ) → At (data_items g) m d → (k : ℕ) × At g k (data_item d)) → (k : ℕ) × At (data_item e ∷ g) k (data_item d)
     go at_first f = (0, at_first)
     go (at_later {i = m} k) f = let r = f m k in (suc r.0, at_later r.1)
+item_in [] i d h = elim h [ ]
 
 in_items : {g : List TopLevel} {k : ℕ} {d : DataItem} → At g k (data_item d) → (i : ℕ) × At (data_items g) i d
 in_items at_first = (0, at_first)

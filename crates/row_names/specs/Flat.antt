@@ -99,10 +99,12 @@ source_sub p (mandatory b) = record { kind = refl; inside = record { plain = ref
 pub placed_sub : {A : Type 0} (f : ℕ → A → Row) → ((p : ℕ) (a : A) → Sub (f p a)) → (xs : List (Placed A)) {i : ℕ} {r : Row} → At (placed_rows f xs) i r → Sub r
 placed_sub f h (x ∷ xs) at_first = h x.word x.what
 placed_sub f h (x ∷ xs) (at_later k) = placed_sub f h xs k
+placed_sub {A = A} f h [] {i = i} {r = r} x' = elim x' [ ]
 
 assigned_inside : (xs : List Assignment) {i : ℕ} {r : Row} → At (map an_assignment xs) i r → Inside r
 assigned_inside (x ∷ xs) at_first = record { plain = refl; names = refl }
 assigned_inside (x ∷ xs) (at_later h) = assigned_inside xs h
+assigned_inside [] {i = i} {r = r} x' = elim x' [ ]
 
 attribute_inside : (p : ℕ) (a : Attribute) {i : ℕ} {r : Row} → At (attribute_rows p a) i r → Inside r
 attribute_inside p (generic g) at_first = (generic_sub p g).inside
@@ -116,6 +118,11 @@ attribute_inside p (component n xs) at_first = record { plain = refl; names = re
 attribute_inside p (component n xs) (at_later h) = (placed_sub component_row component_sub xs h).inside
 attribute_inside p (source n xs) at_first = record { plain = refl; names = refl }
 attribute_inside p (source n xs) (at_later h) = (placed_sub source_row source_sub xs h).inside
+attribute_inside p (generic g) {r = r} (at_later {i = i} h) = elim h [ ]
+attribute_inside p (precondition x) {r = r} (at_later {i = i} h) = elim h [ ]
+attribute_inside p (wait_condition x) {r = r} (at_later {i = i} h) = elim h [ ]
+attribute_inside p (terminate x) {r = r} (at_later {i = i} h) = elim h [ ]
+attribute_inside p (trigger n) {r = r} (at_later {i = i} h) = elim h [ ]
 
 attributes_inside : (xs : List (Placed Attribute)) (i : ℕ) {r : Row} → At (attributes_rows xs) i r → Inside r
 attributes_inside [] i h = elim h [ ]

@@ -57,11 +57,18 @@ component_only p (postcondition xs) (at_later h) e = absurd (assigned_kind xs h 
     assigned_kind : (xs : List Assignment) {m : ℕ} {r : Row} → At (map Rows.an_assignment xs) m r → ¬ (kind-of r ≡ “component”)
     assigned_kind (x ∷ xs) at_first q = omega arith
     assigned_kind (x ∷ xs) (at_later k) q = assigned_kind xs k q
+    assigned_kind [] {m = m} x7 q = elim x7 [ ]
 component_only p (trigger n) at_first e = absurd (omega arith)
 component_only p (component n xs) at_first e = record { n = n; xs = xs; is = refl; first = refl; name = refl }
 component_only p (component n xs) (at_later h) e = sub_no (placed_sub component_row component_sub xs h) e refl
 component_only p (source n xs) at_first e = absurd (omega arith)
 component_only p (source n xs) (at_later h) e = sub_no (placed_sub source_row source_sub xs h) e refl
+component_only p (generic (caption x)) {r = r} (at_later {i = i} h) e = elim h [ ]
+component_only p (generic (description x)) {r = r} (at_later {i = i} h) e = elim h [ ]
+component_only p (precondition x) {r = r} (at_later {i = i} h) e = elim h [ ]
+component_only p (wait_condition x) {r = r} (at_later {i = i} h) e = elim h [ ]
+component_only p (terminate x) {r = r} (at_later {i = i} h) e = elim h [ ]
+component_only p (trigger n) {r = r} (at_later {i = i} h) e = elim h [ ]
 
 pub record AConstraint (a : Attribute) (m : ℕ) (r : Row) : Type 0 where
   pub n : Name
@@ -104,6 +111,7 @@ constraint_only p (postcondition xs) (at_later h) e = absurd (assigned_kind xs h
     assigned_kind : (xs : List Assignment) {m : ℕ} {r : Row} → At (map Rows.an_assignment xs) m r → ¬ (kind-of r ≡ “schedule-constraint”)
     assigned_kind (x ∷ xs) at_first q = omega arith
     assigned_kind (x ∷ xs) (at_later k) q = assigned_kind xs k q
+    assigned_kind [] {m = m} x7 q = elim x7 [ ]
 constraint_only p (trigger n) at_first e = absurd (omega arith)
 constraint_only p (component n xs) at_first e = absurd (omega arith)
 constraint_only p (component n xs) (at_later {i = i} h) e = let r = at_placed component_row xs h in constraint_in n xs i r.from r.at r.is e
@@ -118,6 +126,13 @@ constraint_only p (source n xs) (at_later h) e = absurd (source_kind_no xs h e)
     source_kind_no : (xs : List (Placed SourceAttribute)) {m : ℕ} {r : Row} → At (placed_rows source_row xs) m r → ¬ (kind-of r ≡ “schedule-constraint”)
     source_kind_no (x ∷ xs) at_first q = one x.word x.what q
     source_kind_no (x ∷ xs) (at_later k) q = source_kind_no xs k q
+    source_kind_no [] {m = m} x7 q = elim x7 [ ]
+constraint_only p (generic (caption x)) {r = r} (at_later {i = i} h) e = elim h [ ]
+constraint_only p (generic (description x)) {r = r} (at_later {i = i} h) e = elim h [ ]
+constraint_only p (precondition x) {r = r} (at_later {i = i} h) e = elim h [ ]
+constraint_only p (wait_condition x) {r = r} (at_later {i = i} h) e = elim h [ ]
+constraint_only p (terminate x) {r = r} (at_later {i = i} h) e = elim h [ ]
+constraint_only p (trigger n) {r = r} (at_later {i = i} h) e = elim h [ ]
 
 -- ---- kinds
 

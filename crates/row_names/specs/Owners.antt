@@ -73,6 +73,11 @@ own_view p (component n xs) at_first = the_word refl refl
 own_view p (component n xs) (at_later h) = let r = at_placed component_row xs h in of_component r.at r.is
 own_view p (source n xs) at_first = the_word refl refl
 own_view p (source n xs) (at_later h) = let r = at_placed source_row xs h in of_source r.at r.is
+own_view p (generic g) {r = r} (at_later {i = i} h) = elim h [ ]
+own_view p (precondition x) {r = r} (at_later {i = i} h) = elim h [ ]
+own_view p (wait_condition x) {r = r} (at_later {i = i} h) = elim h [ ]
+own_view p (terminate x) {r = r} (at_later {i = i} h) = elim h [ ]
+own_view p (trigger n) {r = r} (at_later {i = i} h) = elim h [ ]
 
 -- the first row is there
 pub word_row : (p : ℕ) (a : Attribute) → (r : Row) × At (attribute_rows p a) 0 r × (kind-of r ≡ word_of a) × (Rows.word_of r ≡ p)
@@ -112,9 +117,25 @@ source_in (source n xs) = record { named = n; attributes = xs } ∷ []
 
 only_component : (a : Attribute) {m : ℕ} {c : Component} → At (component_in a) m c → a ≡ component c.named c.attributes
 only_component (component n xs) at_first = refl
+only_component (generic _) {m = m} {c = c} x'' = elim x'' [ ]
+only_component (precondition _) {m = m} {c = c} x3 = elim x3 [ ]
+only_component (wait_condition _) {m = m} {c = c} x4 = elim x4 [ ]
+only_component (terminate _) {m = m} {c = c} x5 = elim x5 [ ]
+only_component (postcondition _) {m = m} {c = c} x6 = elim x6 [ ]
+only_component (trigger _) {m = m} {c = c} x7 = elim x7 [ ]
+only_component (component n xs) {c = c} (at_later {i = i} x14) = elim x14 [ ]
+only_component (source _ _) {m = m} {c = c} x10 = elim x10 [ ]
 
 only_source : (a : Attribute) {m : ℕ} {c : Source} → At (source_in a) m c → a ≡ source c.named c.attributes
 only_source (source n xs) at_first = refl
+only_source (generic _) {m = m} {c = c} x'' = elim x'' [ ]
+only_source (precondition _) {m = m} {c = c} x3 = elim x3 [ ]
+only_source (wait_condition _) {m = m} {c = c} x4 = elim x4 [ ]
+only_source (terminate _) {m = m} {c = c} x5 = elim x5 [ ]
+only_source (postcondition _) {m = m} {c = c} x6 = elim x6 [ ]
+only_source (trigger _) {m = m} {c = c} x7 = elim x7 [ ]
+only_source (component _ _) {m = m} {c = c} x9 = elim x9 [ ]
+only_source (source n xs) {c = c} (at_later {i = i} x15) = elim x15 [ ]
 
 -- the attribute that it is, and where its rows begin
 pub record In (t : Task) (what : Attribute) : Type 0 where

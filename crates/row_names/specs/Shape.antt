@@ -48,6 +48,7 @@ rest_plain : {k : Class} {w r : List Token} {xs : List (Placed Attribute)} {i : 
     → Series (AttributeAt k) w r xs → At xs i a → is_generic a.what ≡ false
 rest_plain (and_more s m) at_first = not_generic s
 rest_plain (and_more s m) (at_later h) = rest_plain m h
+rest_plain {k = k} {i = i} {a = a} (none {r = r}) x5 = elim x5 [ ]
 
 abbrev lead : Placed Generic → Placed Attribute
 lead g = record { word = g.word; what = generic g.what }
@@ -74,6 +75,7 @@ top_leads : {w r : List Token} {g : List TopLevel} {i : ℕ} {t : Task} → Seri
 top_leads (and_more (a_top_task s) m) at_first = task_leads s
 top_leads (and_more (a_top_task s) m) (at_later h) = top_leads m h
 top_leads (and_more (a_top_data_item s) m) h = top_leads m h
+top_leads {i = i} {t = t} (none {r = r}) h = elim h [ ]
 
 all_lead : {w m : List Token} {root : Task} {tops : List TopLevel} {i : ℕ} {t : Task} → TaskAt w m root → Series TopLevelAt m [] tops → At (root ∷ tasks tops) i t → Leads t.attributes
 all_lead s m at_first = task_leads s
