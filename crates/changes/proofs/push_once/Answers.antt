@@ -1,0 +1,13 @@
+-- `push_once`: the row that stands there, or one behind the others.
+use Rattle.changes.specs.Push.{asks_there, asks_new}
+use Rattle.changes.proofs.push_once.Goals as goal
+
+pub returns-then-found-clause-asks : goal.returns-then-found-clause-asks
+returns-then-found-clause-asks c =
+    let a = c.args in
+    asks_there a.out.now a.n a.c a.p a.k a.x c.if-found.true c.found.ensures
+
+pub returns-clause-asks : goal.returns-clause-asks
+returns-clause-asks c =
+    let a = c.args in
+    asks_new a.out.now a.n a.c a.p a.k a.x c.push.new.out c.push.result c.if-found.false c.found.ensures c.push.ensures.pushes
