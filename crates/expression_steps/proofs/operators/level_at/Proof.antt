@@ -14,12 +14,12 @@ returns c =
 returns-2 : tie.Need-returns-then-k-eq-AND
 returns-2 c =
     let k = c.before.before.kind_at-k.ensures in
-    sym (level_and c.before.before.before.before.args.assigned _ (sym k ∙ c.if-k-eq-AND.true-raw) (not-false _ c.before.if-not-assigned.false-raw))
+    sym (level_and c.before.before.before.before.args.assigned _ (sym k ∙ c.if-k-eq-AND.true) (not-false _ c.before.if-not-assigned.false-raw))
 
 returns-3 : tie.Need-returns
 returns-3 c =
     let k = c.before.before.before.kind_at-k.ensures in
-    sym (level_other c.before.before.before.before.before.args.assigned _ (λ q. c.before.if-k-eq-AND.false-raw (k ∙ q)) ∙ ap level_of (sym k) ∙ sym c.level-2.ensures)
+    sym (level_other c.before.before.before.before.before.args.assigned _ (λ q. c.before.if-k-eq-AND.false (k ∙ q)) ∙ ap level_of (sym k) ∙ sym c.level-2.ensures)
 
 pub level_at_spec : {M : Type 1} → statement M
 level_at_spec =

@@ -70,7 +70,7 @@ returns-2 c =
       sum = omega arith;
       looser = λ y. absurd (omega arith);
       beside = l.invariant.2;
-      done = subst (λ (i : ℕ). Settles c.before.before.before.args.cells-1.now l.cells-1 c.before.before.before.args.t2 c.before.before.before.args.t3 c.before.before.before.args.t4 c.before.before.before.args.o c.before.before.before.args.l c.before.before.before.args.most (operand i l.from l.used l.depth)) e l.invariant.3;
+      done = subst (λ (i : ℕ). Settles c.before.before.before.args.cells.now l.cells c.before.before.before.args.ks c.before.before.before.args.fs c.before.before.before.args.ds c.before.before.before.args.o c.before.before.before.args.l c.before.before.before.args.most (operand i l.from l.used l.depth)) e l.invariant.3;
     }
 
 pub reduce_spec : {M : Type 1} → statement M
