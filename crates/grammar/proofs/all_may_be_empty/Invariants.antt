@@ -1,7 +1,7 @@
 -- `all_may_be_empty` is `blank`: the invariant is that the symbols passed may be empty.
 use Rattle.std.proofs.Common.{◌-◌, ◌≡◌}
-use Rattle.paper_grammar.specs.Laws.Ll.{blank}
-use Rattle.paper_grammar.specs.Laws.Form.{G}
+use Rattle.paper_grammar.proofs.Laws.Ll.{blank}
+use Rattle.paper_grammar.proofs.Laws.Form.{G}
 use Rattle.grammar.proofs.MachineLaws.{syms}
 use Rattle.grammar.proofs.all_may_be_empty.Given as goal
 
