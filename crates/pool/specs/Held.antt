@@ -2,12 +2,12 @@
 use Rattle.std.specs.Prelude.{◌≡◌, refl, true, List, [], ◌∷◌, ◌++◌, ℕ, zero, suc, ◌+◌, ◌*◌, ◌-◌, ◌%◌, ◌≤◌, ◌<◌, pos, nat_abs, get_or, length}
 use Rattle.std.proofs.Common.{sym, ap, ap₂, subst, ◌∙◌, inl, inr, append-nil, arith, length-append}
 use Rattle.std.proofs.Math.Decide.{dec_lt}
-use Rattle.std.proofs.Math.IntN.{-ℤ-+ℤ_cancel}
+use Rattle.std.proofs.Math.IntN
 use Rattle.paper_expressions.specs.Limits.{real_limit}
 use Rattle.paper_expressions.specs.Values.{dormant, in_progress, discarded, completed}
 use Rattle.paper_expressions.specs.Operators.{plus, minus, times, is>, is<, is>=, is<=, is=, is!=, max, min}
 use Rattle.paper_expressions.specs.Operators.{Op, arithmetic, divide, compare, and, or, includes, oneof, if, negate, isknown, not, count, sum, extreme, nth, is-in, no_such}
-use Rattle.paper_expressions.specs.Expressions.{Expr, Exprs, Atom, IntegerLit, FloatLit, StringLit, Paren, Listing, Apply, ε, _▸_}
+use Rattle.paper_expressions.specs.Expressions.{Expr, Exprs, Atom, IntegerLit, FloatLit, StringLit, Paren, Listing, Apply, ε, ◌▸◌}
 use Rattle.parts.specs.Codes.{code, kind}
 use Rattle.parts.specs.Texts.{cells, handle, text_at_fn, text_of, literal, moved}
 use Rattle.parts.specs.Part.{table, size, sizes, number_of, operands, OpLoad, Load, Root, Holds, HoldsAll}
@@ -23,7 +23,7 @@ use Rattle.pool.specs.Columns.{texted, word, load, word_at, part_at, said, marks
 -- ---- one part
 
 moved_literal : (x : ℕ) → moved (literal x) ≡ x
-moved_literal x = ap nat_abs (-ℤ-+ℤ_cancel (pos x) (pos real_limit))
+moved_literal x = ap nat_abs (IntN.-ℤ-+ℤ_cancel (pos x) (pos real_limit))
 
 -- a text that stands from q on has its handle
 spelt_text : (text b : List ℕ) (x q : ℕ) → Spelt b q (text_at_fn text x) → text_at_fn b (handle q (x % 64)) ≡ text_at_fn text x

@@ -19,7 +19,7 @@ decreases-loop text cells₀ from to bytes₀ o p₀ i₀ cells bytes p i = to -
 loop-holds : tie.Need-loop-i-init invariant-loop decreases-loop
 loop-holds c =
     let a = c.before.before.before.args in
-    (omega arith, λ h. h, refl, refl, subst (λ (n : ℕ). Moved a.text.now a.cells-1.now a.cells-1.now a.bytes-1.now a.bytes-1.now a.from n a.o a.o) {x = 0} {y = a.from - a.from} (omega arith) (moved_none _ _ _ _ _))
+    (omega arith, λ h. h, refl, refl, subst (λ (n : ℕ). Moved a.text.now a.cells.now a.cells.now a.bytes.now a.bytes.now a.from n a.o a.o) {x = 0} {y = a.from - a.from} (omega arith) (moved_none _ _ _ _ _))
 
 loop-again : tie.Need-loop-i-preserved invariant-loop decreases-loop
 loop-again c =

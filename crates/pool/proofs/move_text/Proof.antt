@@ -15,40 +15,40 @@ returns c = record { room = λ h f. absurd (omega arith); ends = λ h f. absurd 
 
 returns-2 : tie.Need-returns-then-not-has_text
 returns-2 c =
-    let a = c.before.before.before.before.before.before.before.before.args in
-    untexted a.text.now a.cells.now a.bytes-1.now a.i a.o (ap texted (sym c.before.before.code.ensures) ∙ sym c.before.has_text.ensures ∙ not-true _ c.if-not-has_text.true-raw)
+    let a = c.args in
+    untexted a.text.now a.cells.now a.bytes.now a.i a.o (ap texted (sym c.code.ensures) ∙ sym c.has_text.ensures ∙ not-true _ c.if-not-has_text.true-raw)
 
 returns-3 : tie.Need-returns-then-not-room
 returns-3 c =
-    let a = c.before.before.before.before.before.before.before.before.before.before.before.before.args in
-    let x = c.before.before.load-x.ensures in
-    no_room a.text.now a.cells.now a.bytes-1.now a.i a.o
-    (ap texted (sym c.before.before.before.before.before.before.code.ensures) ∙ sym c.before.before.before.before.before.has_text.ensures ∙ not-false _ c.before.before.before.before.if-not-has_text.false-raw)
-    (subst (λ (n : ℕ). Rooms (length a.bytes-1.now) (a.o + n % 64) false) x (subst (Rooms (length a.bytes-1.now) (a.o + c.before.before.load-x.result % 64)) (not-true _ c.if-not-room.true-raw) c.before.room.ensures))
+    let a = c.args in
+    let x = c.load-x.ensures in
+    no_room a.text.now a.cells.now a.bytes.now a.i a.o
+    (ap texted (sym c.code.ensures) ∙ sym c.has_text.ensures ∙ not-false _ c.if-not-has_text.false-raw)
+    (subst (λ (n : ℕ). Rooms (length a.bytes.now) (a.o + n % 64) false) x (subst (Rooms (length a.bytes.now) (a.o + c.load-x.result % 64)) (not-true _ c.if-not-room.true-raw) c.room.ensures))
 
 mul-cells : tie.Need-overflow_mul-cells
-mul-cells c = let z = c.before.room.ensures.fits (not-false _ c.if-not-room.false-raw) in omega arith
+mul-cells c = let z = c.room.ensures.fits (not-false _ c.if-not-room.false-raw) in omega arith
 
 add-cells : tie.Need-overflow_add-cells
-add-cells c = let z = c.before.room.ensures.fits (not-false _ c.if-not-room.false-raw) in omega arith
+add-cells c = let z = c.room.ensures.fits (not-false _ c.if-not-room.false-raw) in omega arith
 
 cast-cells : tie.Need-overflow_cast-cells
-cast-cells c = let z = c.before.room.ensures.fits (not-false _ c.if-not-room.false-raw) in omega arith
+cast-cells c = let z = c.room.ensures.fits (not-false _ c.if-not-room.false-raw) in omega arith
 
 copy-requires : tie.Need-copy-requires
 copy-requires c κs =
-    let z = c.before.before.room.ensures.fits (not-false _ c.before.if-not-room.false-raw) in
-    let x = c.before.before.before.load-x.type-inv in
+    let z = c.room.ensures.fits (not-false _ c.if-not-room.false-raw) in
+    let x = c.load-x.type_inv in
     (z.0, omega arith)
 
 add-result : tie.Need-overflow_add-result
-add-result c = let z = c.before.before.before.before.before.room.ensures.fits (not-false _ c.before.before.before.before.if-not-room.false-raw) in omega arith
+add-result c = let z = c.room.ensures.fits (not-false _ c.if-not-room.false-raw) in omega arith
 
 returns-4 : tie.Need-returns
 returns-4 c =
-    let a = c.before.before.before.before.before.before.before.before.before.before.before.before.before.before.before.before.args in
-    moved_one a.text.now a.cells.now a.bytes-1.now _ a.i a.o c.before.before.before.before.before.before.load-x.result c.before.before.before.before.before.before.load-x.ensures
-    (ap texted (sym c.before.before.before.before.before.before.before.before.before.before.code.ensures) ∙ sym c.before.before.before.before.before.before.before.before.before.has_text.ensures ∙ not-false _ c.before.before.before.before.before.before.before.before.if-not-has_text.false-raw) c.before.before.copy.ensures
+    let a = c.args in
+    moved_one a.text.now a.cells.now a.bytes.now _ a.i a.o c.load-x.result c.load-x.ensures
+    (ap texted (sym c.code.ensures) ∙ sym c.has_text.ensures ∙ not-false _ c.if-not-has_text.false-raw) c.copy.ensures
 
 pub move_text_spec : {M : Type 1} → statement M
 move_text_spec =
