@@ -67,7 +67,7 @@ pub fn after(i: u32, r: Ran) -> Ran
 // The cycle that is the n-th: what its m rows did, and the values that they gave.
 fn tell(rows: &[u32], texts: &[u8], plan: &[u32], out: &[u32], m: usize, news: &[u32], n: u32) {
     write::text(b"cycle ");
-    io::print_decimal(libc::STDOUT_FILENO, n as u64);
+    io::print_decimal(pieces::STDOUT_FILENO, n as u64);
     write::text(b":");
     done::tell(rows, texts, plan, out, m);
     assigned::tell(rows, texts, plan, news);

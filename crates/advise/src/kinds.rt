@@ -2,7 +2,7 @@
 ghost use Rattle.std.specs.Prelude.{◌≡◌};
 ghost use Rattle.advise.specs.CallsTold.{elements_of};
 
-use libc::STDOUT_FILENO;
+use pieces::STDOUT_FILENO;
 use sentences::write;
 use typed_value::{Kind, Room};
 

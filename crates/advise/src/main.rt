@@ -22,11 +22,12 @@ ghost use Rattle.std.specs.Prelude.{◌≤◌, length};
 
 use limits::{Expressions, Guideline, Rows, Waits};
 use spot::seen::Seen;
+use std::io::Stdin;
 
 const GUIDELINE: i32 = 3;
 
 // Loads the text, and begins; or tells its refusal.
-fn begin(text: &[u8], s: Seen) {
+fn begin(stdin: &mut Stdin, text: &[u8], s: Seen) {
     if Guideline::LIMIT < s.total {
         told_refusal::too_long(text, s);
         return;
@@ -41,21 +42,22 @@ fn begin(text: &[u8], s: Seen) {
         text, &mut rows, &mut parts, &mut plan, &mut waits, &mut texts, &mut state,
     ) {
         load::Reply::Done => {
-            session::talk(&rows, &parts, &mut texts, &plan, waits, &mut state);
+            session::talk(stdin, &rows, &parts, &mut texts, &plan, waits, &mut state);
         }
         load::Reply::Refused(number, place) => told_refusal::tell(text, number, place, s),
     }
 }
 
-fn begin_first(buffer: &[u8], n: usize, s: Seen)
+fn begin_first(stdin: &mut Stdin, buffer: &[u8], n: usize, s: Seen)
     requires { n ≤ length buffer.now }
 {
-    begin(&buffer[..n], s);
+    begin(stdin, &buffer[..n], s);
 }
 
-fn main() {
+fn main(rt: HostRuntime) {
+    let mut stdin = rt.stdin();
     let mut kept = io::large_buffer();
     let t = told_refusal::take(GUIDELINE, &mut kept);
     let s = t.seen;
-    begin_first(&kept, t.kept, s);
+    begin_first(&mut stdin, &kept, t.kept, s);
 }

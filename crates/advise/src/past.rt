@@ -1,7 +1,7 @@
 // Which limit a value passes that was refused with 6.
 use crate::kinds::count;
-use libc::STDOUT_FILENO;
 use numbers::Num;
+use pieces::STDOUT_FILENO;
 use typed_value::Kind;
 use values::List;
 

@@ -1,5 +1,5 @@
 // The beginning of what is told of a refusal, and what 7 and 8 mean.
-use libc::STDOUT_FILENO;
+use pieces::STDOUT_FILENO;
 use sentences::write;
 
 pub fn head(n: u8) {

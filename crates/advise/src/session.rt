@@ -6,6 +6,7 @@ use crate::answer::answer;
 use crate::shown;
 use limits::WaitTable;
 use sentences::write;
+use std::io::Stdin;
 use typed_lines::{Held, Line, prompt};
 
 // Whether nothing is left to be read, or to be told of a line that was too long.
@@ -50,6 +51,7 @@ fn turn(
 
 // A proved loop has to end, so it counts its turns down, from a number that no person uses up.
 pub fn talk(
+    stdin: &mut Stdin,
     rows: &[u32],
     parts: &[u32],
     texts: &mut [u8],
@@ -60,13 +62,13 @@ pub fn talk(
     ensures { Talked rows.now parts.now plan.now waits texts.old state.old texts.new state.new }
 {
     shown::first(rows, parts, texts, plan, state);
-    let terminal = prompt::is_terminal();
+    let terminal = prompt::is_terminal(stdin);
     let mut buffer = [0u8; Line::LIMIT];
     let mut h = typed_lines::nothing();
     let mut turns = u64::MAX;
     while 0 < turns {
         prompt::ask(terminal);
-        h = typed_lines::next(&mut buffer, h);
+        h = typed_lines::next(stdin, &mut buffer, h);
         if is_over(h) {
             return;
         }

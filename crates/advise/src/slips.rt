@@ -1,5 +1,5 @@
 // What is wrong with a value as it is typed.
-use libc::STDOUT_FILENO;
+use pieces::STDOUT_FILENO;
 use sentences::write;
 use typed_value::Slip;
 

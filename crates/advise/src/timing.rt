@@ -20,7 +20,7 @@ fn now(state: &[u32]) -> u64
 // The time, as it is now.
 fn tell(state: &[u32]) {
     write::text(b"The time is ");
-    io::print_decimal(libc::STDOUT_FILENO, now(state));
+    io::print_decimal(pieces::STDOUT_FILENO, now(state));
     write::text(b" seconds.\n");
 }
 

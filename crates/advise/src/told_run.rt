@@ -11,7 +11,7 @@ use sentences::write;
 
 // One cycle or many.
 fn cycles(n: u32) {
-    io::print_decimal(libc::STDOUT_FILENO, n as u64);
+    io::print_decimal(pieces::STDOUT_FILENO, n as u64);
     if n == 1 {
         write::text(b" cycle");
         return;

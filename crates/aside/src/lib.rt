@@ -1,9 +1,10 @@
 // Words on standard error: what is told beside an answer.
 #![tactic(auto)]
 
-use libc::STDERR_FILENO;
 use parts::names::at;
 use spot::show::shown;
+
+const STDERR_FILENO: i32 = 2;
 
 pub fn text(words: &[u8]) {
     io::write_all(STDERR_FILENO, words);

@@ -4,7 +4,11 @@
 ghost use Rattle.std.specs.Prelude.{◌≡◌, false, ◌<◌, length};
 ghost use Rattle.batch.specs.Held.{Held};
 
-use libc::{STDERR_FILENO, STDIN_FILENO, STDOUT_FILENO};
+const STDIN_FILENO: i32 = 0;
+
+pub const STDOUT_FILENO: i32 = 1;
+
+pub const STDERR_FILENO: i32 = 2;
 
 // A text of so many bytes; that there is none; or that it could not be read, as it is cut off or longer than the buffer.
 #[derive(Drop)]

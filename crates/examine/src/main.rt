@@ -5,10 +5,11 @@ ghost use Rattle.std.specs.Prelude.{◌≤◌, length};
 
 use answering::Verdict;
 use bare_names::told;
-use libc::STDIN_FILENO;
 use limits::Guideline;
 use sentences::write;
 use spot::seen::Seen;
+
+const STDIN_FILENO: i32 = 0;
 
 fn examine(text: &[u8], s: Seen) {
     if Guideline::LIMIT < s.total {

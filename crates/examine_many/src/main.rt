@@ -2,8 +2,7 @@
 #![tactic(auto)]
 
 use answering::Verdict;
-use batch::Next;
-use libc::STDOUT_FILENO;
+use batch::{Next, STDOUT_FILENO};
 
 fn write_loads() {
     io::write_all(STDOUT_FILENO, b"loads\n");

@@ -3,6 +3,9 @@
 
 ghost use Rattle.std.specs.Prelude.{◌≤◌, length};
 
+// Standard output, as a file to write to.
+pub const STDOUT_FILENO: i32 = 1;
+
 const BAR: u8 = b'|';
 
 // Where the piece that begins at a place ends.

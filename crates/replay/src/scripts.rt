@@ -6,8 +6,8 @@ ghost use Rattle.replay.specs.Calls.{tables};
 ghost use Rattle.replay.specs.Scripts.{ScriptAnswered, Begun, Replayed};
 
 use crate::calls::line;
+use batch::STDERR_FILENO;
 use digits::word;
-use libc::STDERR_FILENO;
 use limits::{Expressions, WaitTable, Waits};
 use script::is_script;
 use transcript::buffer::flush;

@@ -2,7 +2,7 @@
 ghost use Rattle.std.specs.Prelude.{◌≡◌, length};
 ghost use Rattle.season.specs.Lines.{room_at};
 
-use libc::STDOUT_FILENO;
+const STDOUT_FILENO: i32 = 1;
 
 // Writes the first `o` bytes of the buffer.
 pub fn flush(out: &[u8], o: usize) {

@@ -8,9 +8,11 @@ use crate::joined::plan_of;
 use crate::one_line::Season;
 use crate::records::Work;
 use crate::{first_line, records};
-use libc::STDIN_FILENO;
 use limits::WaitTable;
 use separated::Scan;
+use std::io::{Read, Stdin};
+
+const STDIN_FILENO: i32 = 0;
 
 // What was taken of a chunk: the record is answered, if it ended.
 fn taken(
@@ -159,10 +161,13 @@ fn fewer(left: u64, n: usize) -> u64
 }
 
 // Reads as much as there is, at most a chunk: the number of bytes, none at the end.
-fn read(chunk: &mut [u8]) -> usize
+fn read(stdin: &mut Stdin, chunk: &mut [u8]) -> usize
     ensures { result ≤ length chunk.new }
 {
-    io::count(libc::read(STDIN_FILENO, chunk), chunk)
+    match stdin.read(chunk) {
+        Ok(n) => n,
+        Err(_) => 0,
+    }
 }
 
 // Writes what stands in the buffer, which then has room again.
@@ -181,6 +186,7 @@ fn emptied(out: &[u8], w: Work) -> Work
 
 // Answers the lines of the chunk, writes the answers, and reads the next.
 fn next(
+    stdin: &mut Stdin,
     chunk: &mut [u8],
     tables: &[u32],
     waits: WaitTable,
@@ -210,7 +216,7 @@ fn next(
         begun,
         out,
     );
-    let m = read(chunk);
+    let m = read(stdin, chunk);
     Turn {
         left: fewer(t.left, m),
         at: 0,
@@ -243,6 +249,7 @@ fn end(
 
 // The lines behind the first, from a place of the first chunk on.
 fn lines(
+    stdin: &mut Stdin,
     chunk: &mut [u8],
     n: usize,
     at: usize,
@@ -265,7 +272,9 @@ fn lines(
         work: begun,
     };
     while 0 < t.left {
-        t = next(chunk, tables, waits, texts, columns, kept, ends, s, t, out);
+        t = next(
+            stdin, chunk, tables, waits, texts, columns, kept, ends, s, t, out,
+        );
     }
     t.work
 }
@@ -296,6 +305,7 @@ fn opened(
 
 // Answers what stands behind the first line.
 fn behind(
+    stdin: &mut Stdin,
     chunk: &mut [u8],
     b: Begun,
     tables: &[u32],
@@ -313,13 +323,14 @@ fn behind(
     let s = b.season;
     let begun = b.work;
     let w = lines(
-        chunk, n, b.at, tables, waits, texts, columns, kept, ends, s, begun, out,
+        stdin, chunk, n, b.at, tables, waits, texts, columns, kept, ends, s, begun, out,
     );
     end(tables, waits, texts, columns, kept, ends, s, w, out);
 }
 
 // The whole sheet.
 pub fn answer(
+    stdin: &mut Stdin,
     tables: &[u32],
     waits: WaitTable,
     texts: &[u8],
@@ -334,5 +345,7 @@ pub fn answer(
     if !b.well {
         return;
     }
-    behind(chunk, b, tables, waits, texts, columns, kept, ends, out);
+    behind(
+        stdin, chunk, b, tables, waits, texts, columns, kept, ends, out,
+    );
 }

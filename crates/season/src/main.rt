@@ -19,21 +19,32 @@ use joined::Cells;
 use limits::{WaitTable, Waits};
 use load::Reply;
 use season_answer::Size;
+use std::env::Env;
 
 // The guideline.
 const GUIDELINE: i32 = 3;
 
-fn confirms() -> bool {
+fn confirms(rt: HostRuntime) -> bool {
     let mut argument = [0u8; 16];
-    let n = os::arg(1, &mut argument);
+    let n = match rt.arg(1, &mut argument) {
+        Ok(n) => n,
+        Err(_) => 0,
+    };
     typed_value::lexemes::is_word(&argument, 0, n, b"--confirm")
 }
 
 // What load left, as one table of cells.
-fn all_of(parts: &[u32], plan: &[u32], waits: WaitTable, texts: &[u8], state: &[u32]) {
+fn all_of(
+    rt: HostRuntime,
+    parts: &[u32],
+    plan: &[u32],
+    waits: WaitTable,
+    texts: &[u8],
+    state: &[u32],
+) {
     let mut tables = [0u32; Cells::ALL];
     joined::join(parts, plan, state, &mut tables);
-    on_sheet(&tables, waits, texts);
+    on_sheet(rt, &tables, waits, texts);
 }
 
 // Room for what is written.
@@ -42,13 +53,15 @@ fn room() -> [u8; Size::BUFFER] {
 }
 
 // Reads the sheet through buffers, and answers it.
-fn on_sheet(tables: &[u32], waits: WaitTable, texts: &[u8]) {
+fn on_sheet(rt: HostRuntime, tables: &[u32], waits: WaitTable, texts: &[u8]) {
     let mut chunk = io::large_buffer();
     let mut kept = [0u8; Size::KEPT];
     let mut ends = [0usize; season_answer::Column::LIMIT];
     let mut columns = [0u32; season_answer::Column::LIMIT];
     let mut out = room();
+    let mut stdin = rt.stdin();
     chunks::answer(
+        &mut stdin,
         tables,
         waits,
         texts,
@@ -57,12 +70,12 @@ fn on_sheet(tables: &[u32], waits: WaitTable, texts: &[u8]) {
         &mut ends,
         &mut columns,
         &mut out,
-        confirms(),
+        confirms(rt),
     );
 }
 
 // Loads the guideline.
-fn open(text: &[u8]) {
+fn open(rt: HostRuntime, text: &[u8]) {
     let mut rows = [0u32; limits::Rows::CELLS];
     let mut parts = [0u32; Cells::PARTS];
     let mut plan = [0u32; Cells::PLAN];
@@ -72,20 +85,20 @@ fn open(text: &[u8]) {
     match load::load(
         text, &mut rows, &mut parts, &mut plan, &mut waits, &mut texts, &mut state,
     ) {
-        Reply::Done => all_of(&parts, &plan, waits, &texts, &state),
+        Reply::Done => all_of(rt, &parts, &plan, waits, &texts, &state),
         Reply::Refused(number, place) => reports::guideline(number, place),
     }
 }
 
-fn open_first(text: &[u8], n: usize) {
+fn open_first(rt: HostRuntime, text: &[u8], n: usize) {
     if text.len() < n {
         return;
     }
-    open(&text[..n]);
+    open(rt, &text[..n]);
 }
 
-fn main() {
+fn main(rt: HostRuntime) {
     let mut text = io::large_buffer();
     let n = io::read_full(GUIDELINE, &mut text);
-    open_first(&text, n);
+    open_first(rt, &text, n);
 }

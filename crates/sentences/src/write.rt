@@ -1,6 +1,7 @@
 // Writing to standard output.
-use libc::STDOUT_FILENO;
 use spot::show::shown;
+
+const STDOUT_FILENO: i32 = 1;
 
 pub fn text(words: &[u8]) {
     io::write_all(STDOUT_FILENO, words);

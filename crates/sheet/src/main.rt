@@ -9,8 +9,10 @@ ghost use Rattle.lines.specs.Kept.{kept_limit};
 ghost use Rattle.sheet.specs.Steps.{line_limit};
 ghost use Rattle.sheet.specs.Cleared.{Cleared};
 
-use libc::{STDIN_FILENO, STDOUT_FILENO};
 use output::{State, Written};
+use std::io::{Read, Stdin};
+
+const STDOUT_FILENO: i32 = 1;
 
 // Writes the first o bytes of the buffer.
 fn write(out: &[u8], o: usize) {
@@ -71,10 +73,13 @@ fn answer(chunk: &[u8], kept: &mut [u8], out: &mut [u8], begun: State) -> State
 }
 
 // Reads as much of the input as there is, at most a chunk: the number of bytes, none at the end.
-fn read(chunk: &mut [u8]) -> usize
+fn read(stdin: &mut Stdin, chunk: &mut [u8]) -> usize
     ensures { result ≤ length chunk.new }
 {
-    io::count(libc::read(STDIN_FILENO, chunk), chunk)
+    match stdin.read(chunk) {
+        Ok(n) => n,
+        Err(_) => 0,
+    }
 }
 
 // A proved loop has to end, so the turns are counted down, from a number that no input uses up; none is left at the end of the input.
@@ -85,13 +90,13 @@ pub struct Turn {
 }
 
 // Reads a chunk, answers its lines and writes the answers.
-fn next(chunk: &mut [u8], kept: &mut [u8], out: &mut [u8], t: Turn) -> Turn
+fn next(stdin: &mut Stdin, chunk: &mut [u8], kept: &mut [u8], out: &mut [u8], t: Turn) -> Turn
     requires line_limit_in_bounds { line_limit ≤ length out.old }
     requires left_nonzero { 0 < t.left }
     ensures { result.left < t.left }
 {
     let s = t.s;
-    let n = read(chunk);
+    let n = read(stdin, chunk);
     if n == 0 {
         return Turn { left: 0, s: s };
     }
@@ -103,12 +108,12 @@ fn next(chunk: &mut [u8], kept: &mut [u8], out: &mut [u8], t: Turn) -> Turn
 }
 
 // The whole input.
-fn all(chunk: &mut [u8], kept: &mut [u8], out: &mut [u8], begun: Turn) -> State
+fn all(stdin: &mut Stdin, chunk: &mut [u8], kept: &mut [u8], out: &mut [u8], begun: Turn) -> State
     requires { line_limit ≤ length out.old }
 {
     let mut t = begun;
     while 0 < t.left {
-        t = next(chunk, kept, out, t);
+        t = next(stdin, chunk, kept, out, t);
     }
     t.s
 }
@@ -133,17 +138,18 @@ fn end(kept: &[u8], out: &mut [u8], s: State)
     write(out, o);
 }
 
-fn run(chunk: &mut [u8], kept: &mut [u8], out: &mut [u8])
+fn run(stdin: &mut Stdin, chunk: &mut [u8], kept: &mut [u8], out: &mut [u8])
     requires { (kept_limit ≤ length kept.old) × (line_limit ≤ length out.old) }
 {
     let begun = begin(out);
-    let s = all(chunk, kept, out, begun);
+    let s = all(stdin, chunk, kept, out, begun);
     end(kept, out, s);
 }
 
-fn main() {
+fn main(rt: HostRuntime) {
+    let mut stdin = rt.stdin();
     let mut chunk = io::large_buffer();
     let mut kept = io::large_buffer();
     let mut out = io::large_buffer();
-    run(&mut chunk, &mut kept, &mut out);
+    run(&mut stdin, &mut chunk, &mut kept, &mut out);
 }

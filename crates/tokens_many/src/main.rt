@@ -2,8 +2,7 @@
 // `refused N P`, or `tokens` and ` K:P:L` for each token, with its kind, place and length. For comparison with the second program.
 #![tactic(auto)]
 
-use batch::Next;
-use libc::STDOUT_FILENO;
+use batch::{Next, STDOUT_FILENO};
 use limits::TokenList;
 use terminals::Terminal;
 use tokens::Read;

@@ -1,5 +1,5 @@
 // The names of the properties, by their numbers.
-use libc::STDOUT_FILENO;
+use pieces::STDOUT_FILENO;
 
 #[derive(Drop)]
 pub struct Property {}

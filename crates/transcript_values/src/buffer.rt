@@ -4,7 +4,8 @@ ghost use Rattle.digits.specs.Appends.{Appends};
 ghost use Rattle.transcript_values.specs.Literals.{room_at, next_number};
 
 use digits::{byte, number};
-use libc::STDOUT_FILENO;
+
+const STDOUT_FILENO: i32 = 1;
 
 // Writes the first `o` bytes of the buffer.
 pub fn flush(out: &[u8], o: usize) {

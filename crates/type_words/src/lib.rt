@@ -1,8 +1,8 @@
 // Types and operators in words: how they are called, and what they take by section 11.
 #![tactic(auto)]
 
-use libc::STDOUT_FILENO;
 use parts::Code;
+use pieces::STDOUT_FILENO;
 
 // The place of a type, given by its letter, among the texts below.
 fn place_of(letter: u8) -> usize {

@@ -2,7 +2,7 @@
 ghost use Rattle.std.specs.Prelude.{◌≡◌, true, false, ◌≤◌, length};
 ghost use Rattle.typed_lines.specs.Lines.{Newline, HasLine, LineHeld, Shifted, Dropped};
 
-use libc::STDIN_FILENO;
+use std::io::{Read, Stdin};
 
 #[derive(Drop)]
 pub struct Line {}
@@ -31,12 +31,14 @@ pub fn nothing() -> Held
 }
 
 // One read more, behind the n bytes that are held.
-fn more(buffer: &mut [u8], n: usize) -> usize
+fn more(stdin: &mut Stdin, buffer: &mut [u8], n: usize) -> usize
     requires { n ≤ length buffer.old }
     ensures { (n ≤ result) × (result ≤ length buffer.old) }
 {
-    let got = libc::read(STDIN_FILENO, &mut buffer[n..]);
-    n + io::count(got, &buffer[n..])
+    match stdin.read(&mut buffer[n..]) {
+        Ok(got) => n + got,
+        Err(_) => n,
+    }
 }
 
 // The place of the first newline of n bytes, or n.
@@ -54,7 +56,7 @@ pub fn newline(buffer: &[u8], n: usize) -> usize
 }
 
 // Reads on, unless the buffer has a whole line: a line that fills it is too long, and its beginning goes.
-fn read_on(buffer: &mut [u8], h: Held) -> Held
+fn read_on(stdin: &mut Stdin, buffer: &mut [u8], h: Held) -> Held
     ensures { length buffer.new ≡ length buffer.old }
 {
     let n = h.bytes;
@@ -65,7 +67,7 @@ fn read_on(buffer: &mut [u8], h: Held) -> Held
             ended: h.ended,
         };
     }
-    let m = more(buffer, n);
+    let m = more(stdin, buffer, n);
     Held {
         bytes: m,
         long: h.long,
@@ -84,7 +86,7 @@ fn is_line(buffer: &[u8], h: Held) -> bool
 }
 
 // Reads until there is a line, or the input has ended. A proved loop has to end, so it counts its turns down, from a number that no line uses up: it ends the input.
-pub fn next(buffer: &mut [u8], h: Held) -> Held
+pub fn next(stdin: &mut Stdin, buffer: &mut [u8], h: Held) -> Held
     ensures { LineHeld buffer.old h buffer.new result }
 {
     let mut turns = u64::MAX;
@@ -93,7 +95,7 @@ pub fn next(buffer: &mut [u8], h: Held) -> Held
         if is_line(buffer, now) {
             return now;
         }
-        now = read_on(buffer, now);
+        now = read_on(stdin, buffer, now);
         turns -= 1;
     }
     Held {

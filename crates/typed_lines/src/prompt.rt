@@ -1,10 +1,10 @@
 // The prompt: a mark before each line that is typed; before one from a file, with the line, so that what is written reads as if it were typed.
-use libc::STDIN_FILENO;
 use sentences::write;
+use std::io::{IsTerminal, Stdin};
 
 // Whether standard input is a terminal.
-pub fn is_terminal() -> bool {
-    libc::isatty(STDIN_FILENO) == 1
+pub fn is_terminal(stdin: &Stdin) -> bool {
+    stdin.is_terminal()
 }
 
 // Before a line is read.

@@ -6,8 +6,8 @@ ghost use Rattle.waits.specs.Twins.{parent_at};
 
 use crate::ahead::{Move, Review};
 use crate::{ahead, condition};
-use libc::STDOUT_FILENO;
 use limits::{Marks, Sources, Tasks};
+use pieces::STDOUT_FILENO;
 use sentences::write;
 use state::{Class, Plan, Property, Requested, State, Tag};
 use waits::{both, either, mark};

@@ -1,5 +1,5 @@
 // States, classes and declared types by their numbers in docs/TABLES.md.
-use libc::STDOUT_FILENO;
+use pieces::STDOUT_FILENO;
 use state::{Class, State};
 
 // The place of a state among the texts below.
