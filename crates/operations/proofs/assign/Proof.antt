@@ -14,7 +14,7 @@ returns-2 c = (λ l k. absurd (let e = c.before.cell-d.ensures in omega arith), 
 returns-3 : tie.Need-returns
 returns-3 c =
     let a = c.before.before.before.before.before.before.before.before.before.args in
-    (assign_row a.f.now a.a a.out-1.now a.n c.before.before.push.new.0 c.before.before.push.result c.before.before.before.before.before.cell-d.ensures c.before.before.push.ensures.0, c.before.before.push.ensures.1)
+    (assign_row a.f.now a.a a.out.now a.n c.before.before.push.new.out c.before.before.push.result c.before.before.before.before.before.cell-d.ensures c.before.before.push.ensures.0, c.before.before.push.ensures.1)
 
 pub assign_spec : {M : Type 1} → statement M
 assign_spec =

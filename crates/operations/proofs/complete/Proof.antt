@@ -8,7 +8,7 @@ use Rattle.operations.proofs.complete.Tie as tie
 returns : tie.Need-returns
 returns c =
     let a = c.before.before.before.before.before.before.before.before.before.before.before.before.before.before.before.before.before.before.before.before.args in (
-      complete_rows a.f.now a.clock a.t a.out-1.now c.before.before.before.before.before.before.before.before.before.before.before.before.before.before.before.before.push-a.new.0 c.before.before.before.before.before.before.before.before.before.before.before.before.push-b.new.0 c.before.before.before.before.before.before.before.before.push-c.new.0 c.before.before.assigns.new.1.1.1.0 a.n c.before.before.before.before.before.before.before.before.before.before.before.before.before.before.before.before.push-a.result c.before.before.before.before.before.before.before.before.before.before.before.before.push-b.result c.before.before.before.before.before.before.before.before.push-c.result c.before.before.assigns.result c.before.before.before.before.before.before.before.before.before.before.before.before.before.before.before.before.push-a.ensures.0 c.before.before.before.before.before.before.before.before.before.before.before.before.push-b.ensures.0 c.before.before.before.before.before.before.before.before.push-c.ensures.0 c.before.before.before.before.before.cell.ensures c.before.before.before.before.cell-2.ensures c.before.before.assigns.ensures.0,
+      complete_rows a.f.now a.clock a.t a.out.now c.before.before.before.before.before.before.before.before.before.before.before.before.before.before.before.before.push-a.new.out c.before.before.before.before.before.before.before.before.before.before.before.before.push-b.new.out c.before.before.before.before.before.before.before.before.push-c.new.out c.before.before.assigns.new.out a.n c.before.before.before.before.before.before.before.before.before.before.before.before.before.before.before.before.push-a.result c.before.before.before.before.before.before.before.before.before.before.before.before.push-b.result c.before.before.before.before.before.before.before.before.push-c.result c.before.before.assigns.result c.before.before.before.before.before.before.before.before.before.before.before.before.before.before.before.before.push-a.ensures.0 c.before.before.before.before.before.before.before.before.before.before.before.before.push-b.ensures.0 c.before.before.before.before.before.before.before.before.push-c.ensures.0 c.before.before.before.before.before.cell.ensures c.before.before.before.before.cell-2.ensures c.before.before.assigns.ensures.0,
       omega (arith, c.before.before.before.before.before.before.before.before.before.before.before.before.before.before.before.before.push-a.ensures.1, c.before.before.before.before.before.before.before.before.before.before.before.before.push-b.ensures.1, c.before.before.before.before.before.before.before.before.push-c.ensures.1, c.before.before.before.before.cell-2.ensures, c.before.before.assigns.ensures.1),
     )
 

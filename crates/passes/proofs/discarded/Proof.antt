@@ -22,13 +22,13 @@ loop-again : tie.Need-loop-k-preserved invariant-loop decreases-loop
 loop-again c =
     let a = c.before.before.before.before.before.before.before.args in
     let lp = c.before.before.before.before.loop-k in
-    (omega arith, search rules, discarded_more a.s.now a.f.now a.t3 a.t4 a.t5 a.ended lp.k lp.m lp.invariant.1 (omega arith) c.before.before.nth-t.ensures.1 c.discard_one-v.ensures lp.invariant.2)
+    (omega arith, search rules, discarded_more a.s.now a.f.now a.w a.pre a.wait a.ended lp.k lp.m lp.invariant.1 (omega arith) c.before.before.nth-t.ensures.1 c.discard_one-v.ensures lp.invariant.2)
 
 returns : tie.Need-returns invariant-loop decreases-loop
 returns c =
     let a = c.before.before.before.before.args in
     let lp = c.before.loop-k in
-    discarded_all a.s.now a.f.now a.t3 a.t4 a.t5 a.ended lp.k lp.m (omega arith) lp.invariant.2
+    discarded_all a.s.now a.f.now a.w a.pre a.wait a.ended lp.k lp.m (omega arith) lp.invariant.2
 
 pub discarded_spec : {M : Type 1} → statement M
 discarded_spec =

@@ -24,13 +24,13 @@ loop-again : tie.Need-loop-t-preserved invariant-loop decreases-loop
 loop-again c =
     let a = c.before.before.before.before.before.before.args in
     let lp = c.before.before.loop-t in
-    (omega arith, search rules, upto_more (λ (T : ℕ). marked a.t3 T || marked c.before.before.before.ended_plans-below.result T) lp.t lp.m lp.invariant.1 (omega arith) c.either-v.ensures lp.invariant.2)
+    (omega arith, search rules, upto_more (λ (T : ℕ). marked a.ends T || marked c.before.before.before.ended_plans-below.result T) lp.t lp.m lp.invariant.1 (omega arith) c.either-v.ensures lp.invariant.2)
 
 returns : tie.Need-returns invariant-loop decreases-loop
 returns c =
     let a = c.before.before.before.before.before.args in
     let lp = c.before.loop-t in
-    terminated_all a.s.now a.f.now a.t3 c.before.before.ended_plans-below.result lp.t lp.m (omega arith) c.before.before.ended_plans-below.ensures lp.invariant.2
+    terminated_all a.s.now a.f.now a.ends c.before.before.ended_plans-below.result lp.t lp.m (omega arith) c.before.before.ended_plans-below.ensures lp.invariant.2
 
 pub terminated_spec : {M : Type 1} → statement M
 terminated_spec =

@@ -13,14 +13,14 @@ returns c = (λ t S rows l h. absurd (omega arith), omega arith)
 returns-2 : tie.Need-returns-then-requested
 returns-2 c =
     let a = c.before.before.before.before.before.args in
-    (request_none a.s.now a.d a.out-1.now a.n (sym c.before.requested.ensures ∙ c.if-requested.true), omega arith)
+    (request_none a.s.now a.d a.out.now a.n (sym c.before.requested.ensures ∙ c.if-requested.true), omega arith)
 
 returns-3 : tie.Need-returns
 returns-3 c =
     let a = c.before.before.before.before.before.before.before.before.before.args in
     let f = c.before.before.before.before.if-requested.false in
     let g = c.before.before.before.before.before.requested.ensures in
-    (request_more a.s.now a.d a.out-1.now a.n c.before.before.push_once.new.0 c.before.before.push_once.result g f c.before.before.push_once.ensures.0, omega arith)
+    (request_more a.s.now a.d a.out.now a.n c.before.before.push_once.new.out c.before.before.push_once.result g f c.before.before.push_once.ensures.0, omega arith)
 
 pub request_spec : {M : Type 1} → statement M
 request_spec =
