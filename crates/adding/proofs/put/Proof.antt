@@ -7,7 +7,7 @@ use Rattle.adding.proofs.put.Tie as tie
 returns : tie.Need-returns
 returns c =
     let a = c.before.before.before.before.before.before.before.before.before.before.before.before.before.before.before.before.before.before.before.before.before.before.before.before.args in
-    put_all a.cells.now a.out.now a.d a.s-1.now a.texts-1.now c.before.before.before.before.before.before.before.before.before.before.before.before.before.before.before.before.before.before.before.before.before.before.before.before.requires c.before.before.before.before.before.before.before.before.before.before.before.before.before.before.before.before.before.before.copy_cells.ensures c.before.before.before.before.before.before.before.before.before.before.before.before.before.before.copy_cells-2.ensures c.before.before.before.before.before.before.before.before.before.before.copy_bytes.ensures c.before.before.before.before.before.before.put_cell.ensures c.before.before.put_cell-2.ensures
+    put_all a.cells.now a.out.now a.d a.s.now a.texts.now c.before.before.before.before.before.before.before.before.before.before.before.before.before.before.before.before.before.before.before.before.before.before.before.before.requires c.before.before.before.before.before.before.before.before.before.before.before.before.before.before.before.before.before.before.copy_cells.ensures c.before.before.before.before.before.before.before.before.before.before.before.before.before.before.copy_cells-2.ensures c.before.before.before.before.before.before.before.before.before.before.copy_bytes.ensures c.before.before.before.before.before.before.put_cell.ensures c.before.before.put_cell-2.ensures
 
 pub put_spec : {M : Type 1} → statement M
 put_spec =

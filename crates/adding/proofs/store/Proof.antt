@@ -10,7 +10,7 @@ put-requires c κs = c.before.before.before.before.before.before.before.before.b
 returns : tie.Need-returns
 returns c =
     let a = c.before.before.before.before.before.before.before.before.before.before.before.before.before.before.before.before.before.args in
-    stores a.bytes.now a.v a.d a.s-1.now a.texts-1.now c.before.before.before.before.before.before.before.before.before.before.before.encode.new.1.1.1.0 c.before.before.before.before.before.before.before.before.before.before.before.encode.new.1.1.1.1.0 (search rules) (search rules) c.before.before.before.before.before.before.before.before.before.before.before.encode.ensures c.before.before.before.before.put.ensures
+    stores a.bytes.now a.v a.d a.s.now a.texts.now c.before.before.before.before.before.before.before.before.before.before.before.encode.new.cells c.before.before.before.before.before.before.before.before.before.before.before.encode.new.out (search rules) (search rules) c.before.before.before.before.before.before.before.before.before.before.before.encode.ensures c.before.before.before.before.put.ensures
 
 pub store_spec : {M : Type 1} → statement M
 store_spec =

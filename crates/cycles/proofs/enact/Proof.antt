@@ -9,15 +9,15 @@ use Rattle.cycles.proofs.enact.Tie as tie
 returns : tie.Need-returns
 returns c =
     let a = c.before.before.before.before.before.before.before.before.before.before.before.before.before.before.before.before.before.before.before.before.before.before.before.before.before.before.before.before.before.before.args in
-    let v = c.before.before.before.before.before.before.before.before.before.before.before.before.before.before.before.before.enact.new.0 in
-    let u = c.before.before.before.before.before.before.before.before.before.store.new.1.1.0 in
-    let b' = c.before.before.before.before.before.before.before.before.before.store.new.1.1.1.0 in
-    let s' = c.before.before.raise.new.1.0 in
-    let news = c.before.before.before.before.before.before.before.before.before.before.before.before.before.before.before.before.before.before.before.before.gather.new.1.1.1.1.1.1.0 in
-    let texts = c.before.before.before.before.before.before.before.before.before.before.before.before.before.before.before.before.before.before.before.before.gather.new.1.1.1.1.1.1.1.0 in (
-      cycled a.x.now a.b-1.now b' a.f.now a.s-1.now v u s' a.o.now a.m (replicate 2304 0) news (replicate 49152 0) texts (scratch_room 2304 49152 (omega arith) (omega arith)) (scratch_fresh 2304 (omega arith))
+    let v = c.before.before.before.before.before.before.before.before.before.before.before.before.before.before.before.before.enact.new.s in
+    let u = c.before.before.before.before.before.before.before.before.before.store.new.s in
+    let b' = c.before.before.before.before.before.before.before.before.before.store.new.b in
+    let s' = c.before.before.raise.new.s in
+    let news = c.before.before.before.before.before.before.before.before.before.before.before.before.before.before.before.before.before.before.before.before.gather.new.news in
+    let texts = c.before.before.before.before.before.before.before.before.before.before.before.before.before.before.before.before.before.before.before.before.gather.new.texts in (
+      cycled a.x.now a.b.now b' a.f.now a.s.now v u s' a.o.now a.m (replicate 2304 0) news (replicate 49152 0) texts (scratch_room 2304 49152 (omega arith) (omega arith)) (scratch_fresh 2304 (omega arith))
           c.before.before.before.before.before.before.before.before.before.before.before.before.before.before.before.before.before.before.before.before.gather.ensures c.before.before.before.before.before.before.before.before.before.before.before.before.before.before.before.before.enact.ensures c.before.before.before.before.before.before.before.before.before.store.ensures c.before.before.raise.ensures,
-      moved_nothing_else a.b-1.now b' a.s-1.now v u s' a.o.now a.m news texts c.before.before.before.before.before.before.before.before.before.before.before.before.before.before.before.before.enact.ensures c.before.before.before.before.before.before.before.before.before.store.ensures c.before.before.raise.ensures,
+      moved_nothing_else a.b.now b' a.s.now v u s' a.o.now a.m news texts c.before.before.before.before.before.before.before.before.before.before.before.before.before.before.before.before.enact.ensures c.before.before.before.before.before.before.before.before.before.store.ensures c.before.before.raise.ensures,
     )
 
 pub enact_spec : {M : Type 1} → statement M

@@ -7,12 +7,12 @@ use Rattle.cycles.proofs.raise.Tie as tie
 returns : tie.Need-returns-then-collided
 returns c =
     let a = c.before.before.before.before.before.before.before.before.args in
-    flags a.news.now a.s-1.now c.before.before.put_cell.new.0 c.before.before.before.before.before.collided.ensures c.before.before.before.before.if-collided.true c.before.before.put_cell.ensures
+    flags a.news.now a.s.now c.before.before.put_cell.new.s c.before.before.before.before.before.collided.ensures c.before.before.before.before.if-collided.true c.before.before.put_cell.ensures
 
 returns-2 : tie.Need-returns-else-collided
 returns-2 c =
     let a = c.before.before.before.before.args in
-    flags_not a.news.now a.s-1.now c.before.collided.ensures c.if-collided.false
+    flags_not a.news.now a.s.now c.before.collided.ensures c.if-collided.false
 
 pub raise_spec : {M : Type 1} → statement M
 raise_spec =

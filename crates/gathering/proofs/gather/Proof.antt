@@ -17,7 +17,7 @@ decreases-loop x b f s o m news₀ texts₀ n i₀ news texts i = n - i
 loop-holds : tie.Need-loop-i-init invariant-loop decreases-loop
 loop-holds c =
     let a = c.before.before.before.before.before.before.before.before.args in
-    (omega arith, refl, refl, gathered_none a.x.now a.b.now a.f.now a.s.now a.o.now a.m a.news-1.now a.texts-1.now)
+    (omega arith, refl, refl, gathered_none a.x.now a.b.now a.f.now a.s.now a.o.now a.m a.news.now a.texts.now)
 
 take-requires : tie.Need-take-requires invariant-loop decreases-loop
 take-requires c κs =
@@ -30,7 +30,7 @@ loop-again c =
     let lp = c.before.before.before.before.before.before.before.before.loop-i in
     let n = c.before.before.before.before.before.before.before.before.before.bounded-n.ensures.1 in
     let k = c.before.before.before.before.take.ensures in
-    (omega arith, k.size ∙ lp.invariant.1, k.room ∙ lp.invariant.2, gathered_more a.x.now a.b.now a.f.now a.s.now a.o.now a.m lp.i a.news-1.now lp.news-1 c.before.before.before.before.take.new.1.1.1.1.1.1.0 a.texts-1.now lp.texts-1 c.before.before.before.before.take.new.1.1.1.1.1.1.1.0 (λ l. (let e = n l in omega arith)) lp.invariant.1 lp.invariant.2 k lp.invariant.3)
+    (omega arith, k.size ∙ lp.invariant.1, k.room ∙ lp.invariant.2, gathered_more a.x.now a.b.now a.f.now a.s.now a.o.now a.m lp.i a.news.now lp.news c.before.before.before.before.take.new.news a.texts.now lp.texts c.before.before.before.before.take.new.texts (λ l. (let e = n l in omega arith)) lp.invariant.1 lp.invariant.2 k lp.invariant.3)
 
 same_length : tie.Need-shape_of-news invariant-loop decreases-loop
 same_length c = c.before.loop-i.invariant.1
@@ -43,7 +43,7 @@ returns c =
     let a = c.before.before.before.before.before.before.before.before.before.before.args in
     let lp = c.before.loop-i in
     let n = c.before.before.bounded-n.ensures.1 in
-    gathered_all a.x.now a.b.now a.f.now a.s.now a.o.now a.m lp.i a.news-1.now lp.news-1 a.texts-1.now lp.texts-1 (λ l. (let e = n l in omega arith)) lp.invariant.3
+    gathered_all a.x.now a.b.now a.f.now a.s.now a.o.now a.m lp.i a.news.now lp.news a.texts.now lp.texts (λ l. (let e = n l in omega arith)) lp.invariant.3
 
 pub gather_spec : {M : Type 1} → statement M
 gather_spec =

@@ -22,7 +22,7 @@ returns-2 c =
     record {
       none = λ e. contra (sym e ∙ n);
       adds = λ e. adds_own c.add.ensures;
-      laid = λ kinds j u row told sd lx lj few room ft. row_laid told sd lx lj few room ft c.before.before.before.before.before.before.before.before.before.before.before.before.before.before.move_name-m.ensures c.before.before.before.before.before.before.before.before.before.move_texts-o.ensures c.before.before.before.put.ensures c.add.ensures.bytes-1;
+      laid = λ kinds j u row told sd lx lj few room ft. row_laid told sd lx lj few room ft c.before.before.before.before.before.before.before.before.before.before.before.before.before.before.move_name-m.ensures c.before.before.before.before.before.before.before.before.before.move_texts-o.ensures c.before.before.before.put.ensures c.add.ensures.bytes;
     }
 
 pub write_spec : {M : Type 1} → statement M

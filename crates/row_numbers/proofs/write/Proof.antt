@@ -12,7 +12,7 @@ returns c =
 returns-2 : tie.Need-returns
 returns-2 c =
     let a = c.before.before.before.before.before.before.before.before.before.before.before.before.before.args in
-    written_none a.b.now a.r a.cells-1.now a.out-1.now c.before.before.before.before.before.before.before.before.before.is_value.ensures c.before.before.before.before.before.before.before.before.if-is_value.false c.before.before.before.before.before.before.clear.ensures c.before.before.clear_bytes.ensures
+    written_none a.b.now a.r a.cells.now a.out.now c.before.before.before.before.before.before.before.before.before.is_value.ensures c.before.before.before.before.before.before.before.before.if-is_value.false c.before.before.before.before.before.before.clear.ensures c.before.before.clear_bytes.ensures
 
 pub write_spec : {M : Type 1} → statement M
 write_spec =

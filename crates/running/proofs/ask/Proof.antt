@@ -12,7 +12,7 @@ returns c =
     let a = c.before.before.before.before.before.before.before.before.before.args in
     let ask = c.before.before.before.ask-m in
     let d = c.bounded-n.ensures in (
-      asks_now a.x.now a.b.now a.f.now a.w a.s.now (replicate 2304 0) ask.new.1.1.1.1.1.0 ask.result c.bounded-n.result ask.ensures (let z = length-replicate {A = ℕ} 2304 0 in omega arith) d.2,
+      asks_now a.x.now a.b.now a.f.now a.w a.s.now (replicate 2304 0) ask.new.out ask.result c.bounded-n.result ask.ensures (let z = length-replicate {A = ℕ} 2304 0 in omega arith) d.2,
       (let z = d.0 in let e = c.before.cells-3-1.given in let y = c.before.before.cells-2-1.given in omega arith),
     )
 

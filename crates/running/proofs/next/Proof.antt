@@ -11,14 +11,14 @@ returns : tie.Need-returns-then-cell-ne0
 returns c =
     let a = c.before.before.before.before.before.before.before.before.before.before.before.before.before.before.before.before.before.before.args in
     let enact = c.before.before.before.before.before.before.before.before.before.enact in
-    (next_exception a.bound a.turn.lent a.x.now a.f.now a.w a.b-1.now a.s-1.now a.asked.cells-1 a.asked.n a.turn.cycles enact.new.1.0 enact.new.1.1.1.0 enact.ensures.0 enact.ensures.1 c.before.before.cell.ensures a.asked c.before.if-cell-ne0.true c.ended.ensures, ap (λ (u : Turn). u.cycles) c.ended.ensures)
+    (next_exception a.bound a.turn.lent a.x.now a.f.now a.w a.b.now a.s.now a.asked.cells a.asked.n a.turn.cycles enact.new.b enact.new.s enact.ensures.0 enact.ensures.1 c.before.before.cell.ensures a.asked c.before.if-cell-ne0.true c.ended.ensures, ap (λ (u : Turn). u.cycles) c.ended.ensures)
 
 returns-2 : tie.Need-returns
 returns-2 c =
     let a = c.before.before.before.before.before.before.before.before.before.before.before.before.before.before.before.before.before.before.before.before.before.args in
     let enact = c.before.before.before.before.before.before.before.before.before.before.before.before.enact in
     let ask = c.before.ask-a in (
-      next_decided a.bound a.turn.lent a.x.now a.f.now a.w a.b-1.now a.s-1.now a.asked.cells-1 a.asked.n a.turn.cycles enact.new.1.0 enact.new.1.1.1.0 enact.ensures.0 enact.ensures.1 c.before.before.before.before.before.cell.ensures ask.result c.before.before.before.before.if-cell-ne0.false ask.ensures.1 ask.ensures.0 c.decide.ensures,
+      next_decided a.bound a.turn.lent a.x.now a.f.now a.w a.b.now a.s.now a.asked.cells a.asked.n a.turn.cycles enact.new.b enact.new.s enact.ensures.0 enact.ensures.1 c.before.before.before.before.before.cell.ensures ask.result c.before.before.before.before.if-cell-ne0.false ask.ensures.1 ask.ensures.0 c.decide.ensures,
       decided_cycles c.decide.ensures,
     )
 

@@ -17,7 +17,7 @@ decreases-loop b h name p n k₀ k = n - k
 returns : tie.Need-returns-then-n-name invariant-loop decreases-loop
 returns c =
     let a = c.before.before.before.args in
-    other_size a.b.now a.h a.name.now c.if-n-name.true-raw
+    other_size a.b.now a.h a.name.now c.if-n-name.true
 
 loop-holds : tie.Need-loop-k-init invariant-loop decreases-loop
 loop-holds c = (omega arith, λ j l. absurd (not-suc-le-zero l))
@@ -35,7 +35,7 @@ loop-again c =
 returns-3 : tie.Need-returns invariant-loop decreases-loop
 returns-3 c =
     let a = c.before.before.before.before.before.args in
-    agreed a.b.now a.h a.name.now c.before.loop-k.k c.before.before.if-n-name.false-raw (omega arith) c.before.loop-k.invariant.1
+    agreed a.b.now a.h a.name.now c.before.loop-k.k c.before.before.if-n-name.false (omega arith) c.before.loop-k.invariant.1
 
 pub same_text_spec : {M : Type 1} → statement M
 same_text_spec =

@@ -25,7 +25,7 @@ returns : tie.Need-returns invariant-loop decreases-loop
 returns c =
     let a = c.before.before.before.before.args in
     let e : c.before.loop-i.i ≡ a.m = omega arith in
-    subst (λ (n : ℕ). Hushed a.out-1.now n a.state.now c.before.loop-i.out-1) e c.before.loop-i.invariant.2
+    subst (λ (n : ℕ). Hushed a.out.now n a.state.now c.before.loop-i.out) e c.before.loop-i.invariant.2
 
 pub hush_spec : {M : Type 1} → statement M
 hush_spec = tie.close (tie.spec invariant-loop decreases-loop loop-holds (λ c κs. search rules) (λ c. search rules) (λ c. search rules) loop-again (λ c. search rules) returns)

@@ -17,14 +17,14 @@ returns-2 c =
     let a = c.before.before.before.before.before.before.before.before.before.before.before.before.before.before.before.before.before.before.before.before.before.before.before.before.before.before.before.before.before.args in
     let e = c.before.before.before.before.before.before.before.before.before.before.before.before.before.before.before.before.before.before.before.before.count.ensures in
     let l = c.before.before.before.before.before.before.before.before.before.before.before.before.before.before.before.before.before.before.before.if-count-d.false in
-    record { item = c.before.before.before.before.before.before.before.before.before.before.before.before.before.before.before.before.before.before.before.before.before.find-d.result; named = c.before.before.before.before.before.before.before.before.before.before.before.before.before.before.before.before.before.before.before.before.before.find-d.ensures; none = λ q. absurd (omega arith); given = λ q. given_as c.before.before.before.before.before.before.before.before.before.before.before.before.before.before.before.before.before.before.before.before.before.find-d.result a.texts-1.now a.plan.now a.state-1.now c.before.before.before.before.before.before.before.before.before.before.before.before.before.before.before.read.ensures.1 _ _ c.before.before.before.before.before.before.before.before.before.before.enum_told-1.given.1 c.before.before.before.before.add.ensures }
+    record { item = c.before.before.before.before.before.before.before.before.before.before.before.before.before.before.before.before.before.before.before.before.before.find-d.result; named = c.before.before.before.before.before.before.before.before.before.before.before.before.before.before.before.before.before.before.before.before.before.find-d.ensures; none = λ q. absurd (omega arith); given = λ q. given_as c.before.before.before.before.before.before.before.before.before.before.before.before.before.before.before.before.before.before.before.before.before.find-d.result a.texts.now a.plan.now a.state.now c.before.before.before.before.before.before.before.before.before.before.before.before.before.before.before.read.ensures.1 _ _ c.before.before.before.before.before.before.before.before.before.before.enum_told-1.given.1 c.before.before.before.before.add.ensures }
 
 returns-3 : tie.Need-returns-in-Wrong
 returns-3 c =
     let a = c.before.before.before.before.before.before.before.before.before.before.before.before.before.before.before.before.before.before.before.before.before.args in
     let e = c.before.before.before.before.before.before.before.before.before.before.before.before.count.ensures in
     let l = c.before.before.before.before.before.before.before.before.before.before.before.if-count-d.false in
-    record { item = c.before.before.before.before.before.before.before.before.before.before.before.before.before.find-d.result; named = c.before.before.before.before.before.before.before.before.before.before.before.before.before.find-d.ensures; none = λ q. absurd (omega arith); given = λ q. unread_as c.before.before.before.before.before.before.before.before.before.before.before.before.before.find-d.result a.texts-1.now a.plan.now a.state-1.now c.before.before.before.before.before.before.before.read.ensures.1 c.before.before.slip-1.given.1 }
+    record { item = c.before.before.before.before.before.before.before.before.before.before.before.before.before.find-d.result; named = c.before.before.before.before.before.before.before.before.before.before.before.before.before.find-d.ensures; none = λ q. absurd (omega arith); given = λ q. unread_as c.before.before.before.before.before.before.before.before.before.before.before.before.before.find-d.result a.texts.now a.plan.now a.state.now c.before.before.before.before.before.before.before.read.ensures.1 c.before.before.slip-1.given.1 }
 
 pub give_spec : {M : Type 1} → statement M
 give_spec = tie.close (tie.spec (λ c κs. search rules) (λ c κs. search rules) (λ c κs. search rules) (λ c. search rules) returns (λ c. search rules) (λ c. search rules) (λ c. search rules) (λ c κs. search rules) (λ c. search rules) (λ c. search rules) (λ c. search rules) (λ c. search rules) (λ c κs. search rules) (λ c. search rules) (λ c κs. search rules) (λ c. search rules) (λ c. search rules) returns-2 (λ c. search rules) returns-3)

@@ -11,10 +11,10 @@ returns : tie.Need-returns-then-not-once
 returns c = λ n b e. nothing_asked e (kind_is once c.before.before.kind.ensures c.before.once.ensures (not-true _ c.if-not-once.true-raw))
 
 returns-2 : tie.Need-returns-then-i-j
-returns-2 c = λ n b e. (kind_is once c.before.before.before.before.kind.ensures c.before.before.before.once.ensures (not-false _ c.before.before.if-not-once.false-raw), c.if-i-j.true-raw, c.before.before-i.ensures)
+returns-2 c = λ n b e. (kind_is once c.before.before.before.before.kind.ensures c.before.before.before.once.ensures (not-false _ c.before.before.if-not-once.false-raw), c.if-i-j.true, c.before.before-i.ensures)
 
 returns-3 : tie.Need-returns
-returns-3 c = λ n b e. let a = c.before.before.before.before.before.before.args in attribute_kept (kind_is once c.before.before.before.before.kind.ensures c.before.before.before.once.ensures (not-false _ c.before.before.if-not-once.false-raw)) (before_end a.rows.now a.j c.if-i-j.false-raw c.before.before-i.ensures)
+returns-3 c = λ n b e. let a = c.before.before.before.before.before.before.args in attribute_kept (kind_is once c.before.before.before.before.kind.ensures c.before.before.before.once.ensures (not-false _ c.before.before.if-not-once.false-raw)) (before_end a.rows.now a.j c.if-i-j.false c.before.before-i.ensures)
 
 pub of_attribute_spec : {M : Type 1} → statement M
 of_attribute_spec = tie.close (tie.spec (λ c κs. search rules) (λ c κs. search rules) returns (λ c κs. search rules) returns-2 returns-3)

@@ -10,7 +10,7 @@ use Rattle.plan_fill.proofs.columns.step.Tie as tie
 returns : tie.Need-returns
 returns c = λ h t d.
     let a = c.before.before.before.before.before.before.before.before.before.before.before.before.args in
-    let e = c.before.before.before.before.before.before.child-c.ensures a.n t h.stands.child-c in
+    let e = c.before.before.before.before.before.before.child-c.ensures a.n t h.stands.child in
     let l = h.few in
     let u = h.below in
     (stands_more (omega arith) h.stands c.passed.ensures c.before.kind.ensures e, λ q p. c.before.before.before.before.write.ensures h t d e q p)

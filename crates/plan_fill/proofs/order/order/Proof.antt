@@ -16,13 +16,13 @@ abbrev decreases-loop : tie.decreases-loop-k
 decreases-loop f₀ m marks₀ k₀ f marks k = 32 - k
 
 loop-holds : tie.Need-loop-k-init invariant-loop decreases-loop
-loop-holds c = let a = c.before.args in (omega arith, refl, order_none a.m a.f-1.now)
+loop-holds c = let a = c.before.args in (omega arith, refl, order_none a.m a.f.now)
 
 loop-again : tie.Need-loop-k-preserved invariant-loop decreases-loop
 loop-again c =
     let a = c.before.before.before.before.before.before.before.before.before.before.before.before.before.before.args in
     let v = c.before.before.before.before.before.before.before.before.before.before.before.before.loop-k.invariant in
-    (omega arith, search rules, order_more a.m c.before.before.before.before.before.before.before.before.before.before.before.before.loop-k.k a.f-1.now c.before.before.before.before.before.before.before.before.before.before.before.before.loop-k.f-1 _ c.before.before.before.before.before.before.before.before.before.before.before.before.loop-k.marks-1 _ c.before.before.before.before.before.before.before.before.before.before.before.before.before.before.requires v.2 c.before.before.before.before.before.before.before.before.next-t.ensures c.before.before.before.before.before.before.mark.ensures c.before.before.before.placed.ensures c.before.before.put.ensures)
+    (omega arith, search rules, order_more a.m c.before.before.before.before.before.before.before.before.before.before.before.before.loop-k.k a.f.now c.before.before.before.before.before.before.before.before.before.before.before.before.loop-k.f _ c.before.before.before.before.before.before.before.before.before.before.before.before.loop-k.marks _ c.before.before.before.before.before.before.before.before.before.before.before.before.before.before.requires v.2 c.before.before.before.before.before.before.before.before.next-t.ensures c.before.before.before.before.before.before.mark.ensures c.before.before.before.placed.ensures c.before.before.put.ensures)
 
 same_length : tie.Need-shape_of-f invariant-loop decreases-loop
 same_length c = c.before.loop-k.invariant.1

@@ -8,7 +8,7 @@ use Rattle.season.proofs.chunks.step.Tie as tie
 returns : tie.Need-returns
 returns c =
     let a = c.before.before.before.before.before.before.before.before.before.before.before.before.before.before.before.before.before.before.before.before.before.before.before.args in
-    taken_on a.s.separator a.p.at (read a.p.work.scan-1 a.kept-1.now a.ends-1.now) a.chunk.now c.before.before.before.before.before.before.before.before.before.before.before.before.before.before.before.before.before.before.before.before.before.before.before.requires c.before.before.before.before.before.before.before.before.before.before.before.take-t.ensures
+    taken_on a.s.separator a.p.at (read a.p.work.scan a.kept.now a.ends.now) a.chunk.now c.before.before.before.before.before.before.before.before.before.before.before.before.before.before.before.before.before.before.before.before.before.before.before.requires c.before.before.before.before.before.before.before.before.before.before.before.take-t.ensures
 
 pub step_spec : {M : Type 1} → statement M
 step_spec =

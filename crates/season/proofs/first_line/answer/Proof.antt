@@ -14,7 +14,7 @@ returns c =
 returns-2 : tie.Need-returns
 returns-2 c =
     let a = c.before.before.before.before.before.before.before.args in
-    subst (λ (t : Bool). Headed t a.plan.now a.texts.now a.columns.now a.many a.kept.now a.ends.now a.separator a.out-1.now a.out-1.now 0) (sym c.if-well.false) refl
+    subst (λ (t : Bool). Headed t a.plan.now a.texts.now a.columns.now a.many a.kept.now a.ends.now a.separator a.out.now a.out.now 0) (sym c.if-well.false) refl
 
 pub answer_spec : {M : Type 1} → statement M
 answer_spec = tie.close (tie.spec (λ c κs. search rules) (λ c. search rules) returns returns-2)

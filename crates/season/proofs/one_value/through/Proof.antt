@@ -7,14 +7,14 @@ use Rattle.season.proofs.one_value.through.Tie as tie
 returns : tie.Need-returns-then-refused-ne-NONE
 returns c =
     let a = c.before.before.before.before.before.before.before.before.before.before.before.before.before.before.before.before.before.args in
-    typed_as a.item a.texts-1.now a.plan.now a.state-1.now a.field.now c.before.before.before.before.before.before.before.before.before.before.cell-declared.ensures
-    (refused_as a.item a.texts-1.now a.plan.now a.state-1.now c.before.before.before.before.before.before.read-refused.ensures c.if-refused-ne-NONE.true)
+    typed_as a.item a.texts.now a.plan.now a.state.now a.field.now c.before.before.before.before.before.before.before.before.before.before.cell-declared.ensures
+    (refused_as a.item a.texts.now a.plan.now a.state.now c.before.before.before.before.before.before.read-refused.ensures c.if-refused-ne-NONE.true)
 
 returns-2 : tie.Need-returns
 returns-2 c =
     let a = c.before.before.before.before.before.before.before.before.before.before.before.before.before.before.before.before.before.before.before.before.before.before.before.before.before.before.before.args in
-    typed_as a.item a.texts-1.now a.plan.now a.state-1.now a.field.now c.before.before.before.before.before.before.before.before.before.before.before.before.before.before.before.before.before.before.before.before.cell-declared.ensures
-    (called_as a.item a.texts-1.now a.plan.now a.state-1.now _ _ _ c.before.before.before.before.before.before.before.before.before.before.before.before.before.before.before.before.read-refused.ensures c.before.before.before.before.before.before.before.before.before.before.if-refused-ne-NONE.false c.before.before.before.before.add_cells.ensures)
+    typed_as a.item a.texts.now a.plan.now a.state.now a.field.now c.before.before.before.before.before.before.before.before.before.before.before.before.before.before.before.before.before.before.before.before.cell-declared.ensures
+    (called_as a.item a.texts.now a.plan.now a.state.now _ _ _ c.before.before.before.before.before.before.before.before.before.before.before.before.before.before.before.before.read-refused.ensures c.before.before.before.before.before.before.before.before.before.before.if-refused-ne-NONE.false c.before.before.before.before.add_cells.ensures)
 
 pub through_spec : {M : Type 1} → statement M
 through_spec =

@@ -19,20 +19,20 @@ decreases-loop texts h out₀ o x n p₀ i₀ out p i = n - i
 loop-holds : tie.Need-loop-i-init invariant-loop decreases-loop
 loop-holds c =
     let a = c.before.before.args in
-    (omega arith, subst (λ (w : List ℕ). Begun a.out-1.now a.out-1.now a.o a.o w (text_at_fn a.texts.now a.h)) (none_left a.texts.now (a.h / 64) (a.h % 64)) (begun_none _ _ _))
+    (omega arith, subst (λ (w : List ℕ). Begun a.out.now a.out.now a.o a.o w (text_at_fn a.texts.now a.h)) (none_left a.texts.now (a.h / 64) (a.h % 64)) (begun_none _ _ _))
 
 loop-again : tie.Need-loop-i-preserved invariant-loop decreases-loop
 loop-again c =
     let a = c.before.before.before.before.before.before.before.before.before.args in
     let l = c.before.before.before.before.before.before.loop-i in
-    (omega arith, begun_more (subst (λ (w : List ℕ). Begun a.out-1.now l.out-1 a.o l.p w (text_at_fn a.texts.now a.h)) (one_less a.texts.now (a.h / 64) (a.h % 64) l.i (omega arith) c.before.before.before.before.at.ensures) l.invariant.1) c.before.before.byte-p.ensures)
+    (omega arith, begun_more (subst (λ (w : List ℕ). Begun a.out.now l.out a.o l.p w (text_at_fn a.texts.now a.h)) (one_less a.texts.now (a.h / 64) (a.h % 64) l.i (omega arith) c.before.before.before.before.at.ensures) l.invariant.1) c.before.before.byte-p.ensures)
 
 returns : tie.Need-returns invariant-loop decreases-loop
 returns c =
     let a = c.before.before.before.before.args in
     let l = c.before.loop-i in
     let e : a.h % 64 - l.i ≡ 0 = omega arith in
-    begun_all (subst (λ (n : ℕ). Begun a.out-1.now l.out-1 a.o l.p (cells a.texts.now (a.h / 64 + l.i) n) (text_at_fn a.texts.now a.h)) e l.invariant.1) (append_nothing _ _)
+    begun_all (subst (λ (n : ℕ). Begun a.out.now l.out a.o l.p (cells a.texts.now (a.h / 64 + l.i) n) (text_at_fn a.texts.now a.h)) e l.invariant.1) (append_nothing _ _)
 
 pub name_spec : {M : Type 1} → statement M
 name_spec =

@@ -20,7 +20,7 @@ loop-holds : tie.Need-loop-i-init invariant-loop decreases-loop
 loop-holds c =
     let a = c.before.before.before.before.before.args in
     let f = of_field a.plan.now a.texts.now a.kept.now a.ends.now in
-    (search rules, ap (λ (k : ℕ). columns_from f a.columns-1.now 0 k) (none_off a.fields), ap (λ (k : ℕ). all_may f a.columns-1.now 0 k) (none_off a.fields))
+    (search rules, ap (λ (k : ℕ). columns_from f a.columns.now 0 k) (none_off a.fields), ap (λ (k : ℕ). all_may f a.columns.now 0 k) (none_off a.fields))
 
 loop-again : tie.Need-loop-i-preserved invariant-loop decreases-loop
 loop-again c =
@@ -29,8 +29,8 @@ loop-again c =
     let f = of_field a.plan.now a.texts.now a.kept.now a.ends.now in
     let one = c.before.before.before.read_one-one.ensures in (
       search rules,
-      sym (columns_next f l.columns-1 l.i a.fields (omega arith) one.1) ∙ l.invariant.1,
-      sym (may_next f l.columns-1 l.i a.fields (omega arith) one.1 l.well one.0 c.both-well.ensures) ∙ l.invariant.2,
+      sym (columns_next f l.columns l.i a.fields (omega arith) one.1) ∙ l.invariant.1,
+      sym (may_next f l.columns l.i a.fields (omega arith) one.1 l.well one.0 c.both-well.ensures) ∙ l.invariant.2,
     )
 
 returns : tie.Need-returns invariant-loop decreases-loop
@@ -38,7 +38,7 @@ returns c =
     let a = c.before.before.before.before.before.before.before.args in
     let l = c.before.loop-i in
     let f = of_field a.plan.now a.texts.now a.kept.now a.ends.now in
-    let (cols, all) = columns_end f l.columns-1 l.i a.fields (omega arith) in
+    let (cols, all) = columns_end f l.columns l.i a.fields (omega arith) in
     (and_true l.well ∙ ap (λ (t : Bool). l.well && t) (sym all) ∙ l.invariant.2, sym cols ∙ l.invariant.1)
 
 pub read_spec : {M : Type 1} → statement M

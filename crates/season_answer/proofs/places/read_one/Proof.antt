@@ -12,7 +12,7 @@ returns : tie.Need-returns
 returns c =
     let a = c.before.before.before.before.before.before.before.before.before.before.before.before.before.args in
     let c-is = c.before.before.before.before.before.before.stands_for-c.ensures ∙ ap (λ (w : List ℕ). stands_for a.plan.now a.texts.now w) c.before.before.before.before.before.before.before.field-name.ensures in
-    (c.before.before.before.before.is_well-well.ensures ∙ ap (λ (x : ℕ). may_stand a.columns-1.now a.i x) c-is, c.before.before.put_cell.ensures ∙ ap (λ (x : ℕ). set a.columns-1.now a.i x) c-is)
+    (c.before.before.before.before.is_well-well.ensures ∙ ap (λ (x : ℕ). may_stand a.columns.now a.i x) c-is, c.before.before.put_cell.ensures ∙ ap (λ (x : ℕ). set a.columns.now a.i x) c-is)
 
 pub read_one_spec : {M : Type 1} → statement M
 read_one_spec =

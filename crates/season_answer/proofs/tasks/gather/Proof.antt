@@ -17,13 +17,13 @@ abbrev decreases-loop : tie.decreases-loop-t
 decreases-loop plan texts state names₀ p₀ t₀ names p t = 32 - t
 
 loop-holds : tie.Need-loop-t-init invariant-loop decreases-loop
-loop-holds c = let a = c.before.before.before.before.args in (search rules, omega arith, λ h. reached_none a.plan.now a.texts.now a.state.now a.names-1.now)
+loop-holds c = let a = c.before.before.before.before.args in (search rules, omega arith, λ h. reached_none a.plan.now a.texts.now a.state.now a.names.now)
 
 loop-again : tie.Need-loop-t-preserved invariant-loop decreases-loop
 loop-again c =
     let a = c.before.before.before.before.before.before.before.before.before.before.args in
     let l = c.before.before.before.before.before.loop-t in
-    (search rules, omega arith, λ h. c.before.before.next-p.ensures a.names-1.now (reached_at a.plan.now a.texts.now a.state.now l.t (omega arith) h (l.invariant.2 h)) (l.invariant.2 h))
+    (search rules, omega arith, λ h. c.before.before.next-p.ensures a.names.now (reached_at a.plan.now a.texts.now a.state.now l.t (omega arith) h (l.invariant.2 h)) (l.invariant.2 h))
 
 returns : tie.Need-returns invariant-loop decreases-loop
 returns c =

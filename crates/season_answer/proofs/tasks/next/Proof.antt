@@ -22,14 +22,14 @@ returns-2 : tie.Need-returns-then-o-eq0
 returns-2 c =
     let a = c.before.before.before.before.before.before.before.before.before.before.before.before.args in
     λ out e h.
-    reached_first a.plan.now a.texts.now a.state.now a.t c.before.before.before.before.before.before.before.is_reached.ensures (not_false _ c.before.before.before.before.before.before.if-not-is_reached.false-raw) (sym e ∙ c.before.before.before.before.if-o-eq0.true-raw)
-    (append_first (sym e ∙ c.before.before.before.before.if-o-eq0.true-raw) h (appends_as (ap (λ (k : ℕ). text_at_fn a.texts.now k) (sym c.before.before.before.before.before.cell-h.ensures)) c.before.before.name.ensures))
+    reached_first a.plan.now a.texts.now a.state.now a.t c.before.before.before.before.before.before.before.is_reached.ensures (not_false _ c.before.before.before.before.before.before.if-not-is_reached.false-raw) (sym e ∙ c.before.before.before.before.if-o-eq0.true)
+    (append_first (sym e ∙ c.before.before.before.before.if-o-eq0.true) h (appends_as (ap (λ (k : ℕ). text_at_fn a.texts.now k) (sym c.before.before.before.before.before.cell-h.ensures)) c.before.before.name.ensures))
 
 returns-3 : tie.Need-returns
 returns-3 c =
     let a = c.before.before.before.before.before.before.before.before.before.before.before.before.before.before.before.before.before.args in
     λ out e h.
-    reached_more a.plan.now a.texts.now a.state.now a.t c.before.before.before.before.before.before.before.before.before.before.before.before.is_reached.ensures (not_false _ c.before.before.before.before.before.before.before.before.before.before.before.if-not-is_reached.false-raw) (λ z. c.before.before.before.before.before.before.before.before.before.if-o-eq0.false-raw (e ∙ z))
+    reached_more a.plan.now a.texts.now a.state.now a.t c.before.before.before.before.before.before.before.before.before.before.before.before.is_reached.ensures (not_false _ c.before.before.before.before.before.before.before.before.before.before.before.if-not-is_reached.false) (λ z. c.before.before.before.before.before.before.before.before.before.if-o-eq0.false (e ∙ z))
     (append_then (append_then h c.before.before.before.before.before.before.word-p.ensures) (appends_as (ap (λ (k : ℕ). text_at_fn a.texts.now k) (sym c.before.before.before.before.before.before.before.before.before.before.cell-h.ensures)) c.before.before.name-2.ensures))
 
 pub next_spec : {M : Type 1} → statement M

@@ -9,7 +9,7 @@ returns : tie.Need-returns-then-t
 returns c = ends c.before.before.before.before.before.before.before.before.before.take-t.ensures c.before.before.before.before.before.before.if-t.true c.before.before.before.write_line-o.ensures c.next.ensures
 
 returns-2 : tie.Need-returns
-returns-2 c = goes_on c.before.before.before.take-t.ensures c.before.before.before.before.before.before.before.before.args.out-1.now (let r = c.before.before.before.before.before.before.before.before.requires in omega arith) c.if-t.false
+returns-2 c = goes_on c.before.before.before.take-t.ensures c.before.before.before.before.before.before.before.before.args.out.now (let r = c.before.before.before.before.before.before.before.before.requires in omega arith) c.if-t.false
 
 pub step_spec : {M : Type 1} → statement M
 step_spec =

@@ -20,20 +20,20 @@ abbrev decreases-loop : tie.decreases-loop-i
 decreases-loop bytes h out₀ o p₀ i₀ out p i = h.len - i
 
 loop-holds : tie.Need-loop-i-init invariant-loop decreases-loop
-loop-holds c = let a = c.before.before.args in (omega arith, subst (λ (w : List ℕ). Begun a.out-1.now a.out-1.now a.o a.o (all_hex w) (all_hex (bytes_of a.bytes.now a.h))) (none_left a.bytes.now a.h.at a.h.len) (begun_none _ _ _))
+loop-holds c = let a = c.before.before.args in (omega arith, subst (λ (w : List ℕ). Begun a.out.now a.out.now a.o a.o (all_hex w) (all_hex (bytes_of a.bytes.now a.h))) (none_left a.bytes.now a.h.at a.h.len) (begun_none _ _ _))
 
 loop-again : tie.Need-loop-i-preserved invariant-loop decreases-loop
 loop-again c =
     let a = c.before.before.before.before.before.before.before.before.before.before.args in
     let l = c.before.before.before.before.before.before.before.loop-i in
-    (omega arith, begun_more (subst (λ (w : List ℕ). Begun a.out-1.now l.out-1 a.o l.p w (all_hex (bytes_of a.bytes.now a.h))) (hex_less a.bytes.now a.h.at a.h.len l.i (omega arith) c.before.before.before.before.at.ensures) l.invariant.1) c.before.before.two_digits-p.ensures)
+    (omega arith, begun_more (subst (λ (w : List ℕ). Begun a.out.now l.out a.o l.p w (all_hex (bytes_of a.bytes.now a.h))) (hex_less a.bytes.now a.h.at a.h.len l.i (omega arith) c.before.before.before.before.at.ensures) l.invariant.1) c.before.before.two_digits-p.ensures)
 
 returns : tie.Need-returns invariant-loop decreases-loop
 returns c =
     let a = c.before.before.before.before.before.args in
     let l = c.before.before.loop-i in
     let e : a.h.len - l.i ≡ 0 = omega arith in
-    begun_all (subst (λ (w : List ℕ). Begun a.out-1.now l.out-1 a.o l.p w (all_hex (bytes_of a.bytes.now a.h))) (ap (λ (n : ℕ). all_hex (cells a.bytes.now (a.h.at + l.i) n)) e ∙ hex_none) l.invariant.1) (append_nothing _ _)
+    begun_all (subst (λ (w : List ℕ). Begun a.out.now l.out a.o l.p w (all_hex (bytes_of a.bytes.now a.h))) (ap (λ (n : ℕ). all_hex (cells a.bytes.now (a.h.at + l.i) n)) e ∙ hex_none) l.invariant.1) (append_nothing _ _)
 
 pub spelt_spec : {M : Type 1} → statement M
 spelt_spec =

@@ -21,12 +21,12 @@ loop-holds c = (omega arith, λ m a b. absurd (omega arith))
 returns : tie.Need-returns-then-k-eq-CAPTION invariant-loop decreases-loop
 returns c =
     let a = c.before.before.before.before.before.args in
-    caption_here (kind_of a.rows.now) a.j 1365 c.before.before.before.loop-i.i c.before.before.before.loop-i.invariant (sym c.before.kind-k.ensures ∙ c.if-k-eq-CAPTION.true-raw)
+    caption_here (kind_of a.rows.now) a.j 1365 c.before.before.before.loop-i.i c.before.before.before.loop-i.invariant (sym c.before.kind-k.ensures ∙ c.if-k-eq-CAPTION.true)
 
 returns-2 : tie.Need-returns-then-not-is_passed invariant-loop decreases-loop
 returns-2 c =
     let a = c.before.before.before.before.before.before.before.args in
-    caption_stopped (kind_of a.rows.now) a.j 1365 c.before.before.before.before.before.loop-i.i c.before.before.before.before.before.loop-i.invariant (λ q. c.before.before.if-k-eq-CAPTION.false-raw (c.before.before.before.kind-k.ensures ∙ q)) (sym (ap passed_kind c.before.before.before.kind-k.ensures) ∙ sym c.before.is_passed.ensures ∙ not-true c.before.is_passed.result c.if-not-is_passed.true-raw)
+    caption_stopped (kind_of a.rows.now) a.j 1365 c.before.before.before.before.before.loop-i.i c.before.before.before.before.before.loop-i.invariant (λ q. c.before.before.if-k-eq-CAPTION.false (c.before.before.before.kind-k.ensures ∙ q)) (sym (ap passed_kind c.before.before.before.kind-k.ensures) ∙ sym c.before.is_passed.ensures ∙ not-true c.before.is_passed.result c.if-not-is_passed.true-raw)
 
 loop-again : tie.Need-loop-i-preserved invariant-loop decreases-loop
 loop-again c =
@@ -36,7 +36,7 @@ loop-again c =
 returns-3 : tie.Need-returns invariant-loop decreases-loop
 returns-3 c =
     let a = c.before.before.before.args in
-    caption_none (kind_of a.rows.now) a.j 1365 c.before.loop-i.i c.before.loop-i.invariant c.loop-i-test.false-raw
+    caption_none (kind_of a.rows.now) a.j 1365 c.before.loop-i.i c.before.loop-i.invariant c.loop-i-test.false
 
 pub caption_spec : {M : Type 1} → statement M
 caption_spec = tie.close (tie.spec invariant-loop decreases-loop loop-holds (λ c. search rules) (λ c κs. search rules) returns (λ c κs. search rules) returns-2 (λ c. search rules) loop-again returns-3)

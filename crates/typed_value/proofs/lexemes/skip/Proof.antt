@@ -20,13 +20,13 @@ loop-holds : tie.Need-loop-p-init invariant-loop decreases-loop
 loop-holds c = (omega arith, omega arith, refl)
 
 returns : tie.Need-returns-then-not-is_blank invariant-loop decreases-loop
-returns c = (search rules, sym (c.before.before.before.before.loop-p.invariant.2 ∙ past_stop blankb c.before.before.before.before.before.before.args.s.now c.before.before.before.before.loop-p.p c.before.before.before.loop-p-test.true-raw (sym c.before.is_blank.ensures ∙ not-true _ c.if-not-is_blank.true-raw)))
+returns c = (search rules, sym (c.before.before.before.before.loop-p.invariant.2 ∙ past_stop blankb c.before.before.before.before.before.before.args.s.now c.before.before.before.before.loop-p.p c.before.before.before.loop-p-test.true (sym c.before.is_blank.ensures ∙ not-true _ c.if-not-is_blank.true-raw)))
 
 loop-again : tie.Need-loop-p-preserved invariant-loop decreases-loop
-loop-again c = (omega arith, omega arith, c.before.before.before.before.loop-p.invariant.2 ∙ past_on blankb c.before.before.before.before.before.before.args.s.now c.before.before.before.before.loop-p.p c.before.before.before.loop-p-test.true-raw (sym c.before.is_blank.ensures ∙ not-false _ c.if-not-is_blank.false-raw))
+loop-again c = (omega arith, omega arith, c.before.before.before.before.loop-p.invariant.2 ∙ past_on blankb c.before.before.before.before.before.before.args.s.now c.before.before.before.before.loop-p.p c.before.before.before.loop-p-test.true (sym c.before.is_blank.ensures ∙ not-false _ c.if-not-is_blank.false-raw))
 
 returns-2 : tie.Need-returns invariant-loop decreases-loop
-returns-2 c = (search rules, sym (c.before.loop-p.invariant.2 ∙ past_end blankb c.before.before.before.args.s.now c.before.loop-p.p c.loop-p-test.false-raw))
+returns-2 c = (search rules, sym (c.before.loop-p.invariant.2 ∙ past_end blankb c.before.before.before.args.s.now c.before.loop-p.p c.loop-p-test.false))
 
 pub skip_spec : {M : Type 1} → statement M
 skip_spec = tie.close (tie.spec invariant-loop decreases-loop loop-holds (λ c. search rules) (λ c κs. search rules) returns (λ c. search rules) (λ c. search rules) loop-again returns-2)

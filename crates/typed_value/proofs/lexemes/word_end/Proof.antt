@@ -20,13 +20,13 @@ loop-holds : tie.Need-loop-p-init invariant-loop decreases-loop
 loop-holds c = (omega arith, omega arith, refl)
 
 returns : tie.Need-returns-then-not-is_letter invariant-loop decreases-loop
-returns c = (search rules, sym (c.before.before.before.before.loop-p.invariant.2 ∙ past_stop letterb c.before.before.before.before.before.before.args.s.now c.before.before.before.before.loop-p.p c.before.before.before.loop-p-test.true-raw (sym c.before.is_letter.ensures ∙ not-true _ c.if-not-is_letter.true-raw)))
+returns c = (search rules, sym (c.before.before.before.before.loop-p.invariant.2 ∙ past_stop letterb c.before.before.before.before.before.before.args.s.now c.before.before.before.before.loop-p.p c.before.before.before.loop-p-test.true (sym c.before.is_letter.ensures ∙ not-true _ c.if-not-is_letter.true-raw)))
 
 loop-again : tie.Need-loop-p-preserved invariant-loop decreases-loop
-loop-again c = (omega arith, omega arith, c.before.before.before.before.loop-p.invariant.2 ∙ past_on letterb c.before.before.before.before.before.before.args.s.now c.before.before.before.before.loop-p.p c.before.before.before.loop-p-test.true-raw (sym c.before.is_letter.ensures ∙ not-false _ c.if-not-is_letter.false-raw))
+loop-again c = (omega arith, omega arith, c.before.before.before.before.loop-p.invariant.2 ∙ past_on letterb c.before.before.before.before.before.before.args.s.now c.before.before.before.before.loop-p.p c.before.before.before.loop-p-test.true (sym c.before.is_letter.ensures ∙ not-false _ c.if-not-is_letter.false-raw))
 
 returns-2 : tie.Need-returns invariant-loop decreases-loop
-returns-2 c = (search rules, sym (c.before.loop-p.invariant.2 ∙ past_end letterb c.before.before.before.args.s.now c.before.loop-p.p c.loop-p-test.false-raw))
+returns-2 c = (search rules, sym (c.before.loop-p.invariant.2 ∙ past_end letterb c.before.before.before.args.s.now c.before.loop-p.p c.loop-p-test.false))
 
 pub word_end_spec : {M : Type 1} → statement M
 word_end_spec = tie.close (tie.spec invariant-loop decreases-loop loop-holds (λ c. search rules) (λ c κs. search rules) returns (λ c. search rules) (λ c. search rules) loop-again returns-2)

@@ -25,7 +25,7 @@ returns c =
     let a = c.before.before.before.before.before.before.args in
     let v = c.before.before.before.before.loop-p.invariant in
     let d = sym c.before.is_digit.ensures ∙ not-true _ c.if-not-is_digit.true-raw in
-    ((v.0, v.1), v.2, sym (sym (counted_kept 0 (drop a.at a.s.now)) ∙ v.3 ∙ counted_stop a.s.now c.before.before.before.before.loop-p.p c.before.before.before.before.loop-p.n c.before.before.before.loop-p-test.true-raw d), sym (v.4 ∙ past_stop digitb a.s.now c.before.before.before.before.loop-p.p c.before.before.before.loop-p-test.true-raw d))
+    ((v.0, v.1), v.2, sym (sym (counted_kept 0 (drop a.at a.s.now)) ∙ v.3 ∙ counted_stop a.s.now c.before.before.before.before.loop-p.p c.before.before.before.before.loop-p.n c.before.before.before.loop-p-test.true d), sym (v.4 ∙ past_stop digitb a.s.now c.before.before.before.before.loop-p.p c.before.before.before.loop-p-test.true d))
 
 with-digit-requires : tie.Need-with_digit-n-requires invariant-loop decreases-loop
 with-digit-requires c κs = digit_low (get_or c.before.before.before.before.before.before.before.args.s.now c.before.before.before.before.before.loop-p.p 0) (sym c.before.before.is_digit.ensures ∙ not-false _ c.before.if-not-is_digit.false-raw)
@@ -36,13 +36,13 @@ loop-again c =
     let v = c.before.before.before.before.before.before.loop-p.invariant in
     let d = sym c.before.before.before.is_digit.ensures ∙ not-false _ c.before.before.if-not-is_digit.false-raw in
     let e = c.with_digit-n.ensures in
-    (omega arith, omega arith, e.0, v.3 ∙ counted_on a.s.now c.before.before.before.before.before.before.loop-p.p c.before.before.before.before.before.before.loop-p.n c.before.before.before.before.before.loop-p-test.true-raw d ∙ ap (λ (m : ℕ). counted m (drop (c.before.before.before.before.before.before.loop-p.p + 1) a.s.now)) (sym e.1), v.4 ∙ past_on digitb a.s.now c.before.before.before.before.before.before.loop-p.p c.before.before.before.before.before.loop-p-test.true-raw d)
+    (omega arith, omega arith, e.0, v.3 ∙ counted_on a.s.now c.before.before.before.before.before.before.loop-p.p c.before.before.before.before.before.before.loop-p.n c.before.before.before.before.before.loop-p-test.true d ∙ ap (λ (m : ℕ). counted m (drop (c.before.before.before.before.before.before.loop-p.p + 1) a.s.now)) (sym e.1), v.4 ∙ past_on digitb a.s.now c.before.before.before.before.before.before.loop-p.p c.before.before.before.before.before.loop-p-test.true d)
 
 returns-2 : tie.Need-returns invariant-loop decreases-loop
 returns-2 c =
     let a = c.before.before.before.args in
     let v = c.before.loop-p.invariant in
-    ((v.0, v.1), v.2, sym (sym (counted_kept 0 (drop a.at a.s.now)) ∙ v.3 ∙ counted_end a.s.now c.before.loop-p.p c.before.loop-p.n c.loop-p-test.false-raw), sym (v.4 ∙ past_end digitb a.s.now c.before.loop-p.p c.loop-p-test.false-raw))
+    ((v.0, v.1), v.2, sym (sym (counted_kept 0 (drop a.at a.s.now)) ∙ v.3 ∙ counted_end a.s.now c.before.loop-p.p c.before.loop-p.n c.loop-p-test.false), sym (v.4 ∙ past_end digitb a.s.now c.before.loop-p.p c.loop-p-test.false))
 
 pub digits_spec : {M : Type 1} → statement M
 digits_spec = tie.close (tie.spec invariant-loop decreases-loop loop-holds (λ c. search rules) (λ c κs. search rules) returns (λ c. search rules) with-digit-requires (λ c. search rules) (λ c. search rules) loop-again returns-2)

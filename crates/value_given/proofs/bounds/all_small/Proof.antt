@@ -19,12 +19,12 @@ loop-holds c = let a = c.before.before.args in (omega arith, upto_none a.tags.no
 returns : tie.Need-returns-then-not-is_small invariant-loop decreases-loop
 returns c =
     let a = c.before.before.before.before.before.before.before.before.args in
-    all_small_not a.tags.now a.nums.now a.bytes.now a.shape c.before.before.before.before.before.loop-i.i c.before.before.before.before.before.loop-i.invariant.0 c.before.before.before.before.loop-i-test.true-raw c.before.before.before.word.ensures c.before.before.number.ensures c.before.is_small.ensures (not-true _ c.if-not-is_small.true-raw)
+    all_small_not a.tags.now a.nums.now a.bytes.now a.shape c.before.before.before.before.before.loop-i.i c.before.before.before.before.before.loop-i.invariant.0 c.before.before.before.before.loop-i-test.true c.before.before.before.word.ensures c.before.before.number.ensures c.before.is_small.ensures (not-true _ c.if-not-is_small.true-raw)
 
 loop-again : tie.Need-loop-i-preserved invariant-loop decreases-loop
 loop-again c =
     let a = c.before.before.before.before.before.before.before.before.args in
-    (omega arith, upto_more a.tags.now a.nums.now a.bytes.now a.shape c.before.before.before.before.before.loop-i.i c.before.before.before.before.before.loop-i.invariant.0 c.before.before.before.before.loop-i-test.true-raw c.before.before.before.word.ensures c.before.before.number.ensures c.before.is_small.ensures (not-false _ c.if-not-is_small.false-raw) c.before.before.before.before.before.loop-i.invariant.1)
+    (omega arith, upto_more a.tags.now a.nums.now a.bytes.now a.shape c.before.before.before.before.before.loop-i.i c.before.before.before.before.before.loop-i.invariant.0 c.before.before.before.before.loop-i-test.true c.before.before.before.word.ensures c.before.before.number.ensures c.before.is_small.ensures (not-false _ c.if-not-is_small.false-raw) c.before.before.before.before.before.loop-i.invariant.1)
 
 returns-2 : tie.Need-returns invariant-loop decreases-loop
 returns-2 c =

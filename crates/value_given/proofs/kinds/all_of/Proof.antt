@@ -19,7 +19,7 @@ loop-holds c = let a = c.before.args in (omega arith, all_none a.tags.now a.nums
 returns : tie.Need-returns-then-not-is_of invariant-loop decreases-loop
 returns c =
     let a = c.before.before.before.before.before.args in
-    all_not a.tags.now a.nums.now a.e c.before.before.before.loop-i.i a.shape c.before.before.before.loop-i.invariant.0 c.before.before.loop-i-test.true-raw c.before.is_of.ensures (not-true _ c.if-not-is_of.true-raw)
+    all_not a.tags.now a.nums.now a.e c.before.before.before.loop-i.i a.shape c.before.before.before.loop-i.invariant.0 c.before.before.loop-i-test.true c.before.is_of.ensures (not-true _ c.if-not-is_of.true-raw)
 
 loop-again : tie.Need-loop-i-preserved invariant-loop decreases-loop
 loop-again c =

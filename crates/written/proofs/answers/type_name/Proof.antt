@@ -32,7 +32,7 @@ returns-8 c = named TruthValue c.before.before.before.before.before.match.keys8 
 returns-9 : tie.Need-returns-in_default
 returns-9 c =
     let n = c.in_default.rest in
-    unnamed c.before.before.args.out-1.now c.before.before.args.o (no_letter n.0.0.0.0.0.0.0.1 n.0.0.0.0.0.0.1 n.0.0.0.0.0.1 n.0.0.0.0.1 n.0.0.0.1 n.0.0.1 n.0.1 n.1)
+    unnamed c.before.before.args.out.now c.before.before.args.o (no_letter n.0.0.0.0.0.0.0.1 n.0.0.0.0.0.0.1 n.0.0.0.0.0.1 n.0.0.0.0.1 n.0.0.0.1 n.0.0.1 n.0.1 n.1)
 
 pub type_name_spec : {M : Type 1} → statement M
 type_name_spec =
