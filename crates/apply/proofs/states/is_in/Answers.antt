@@ -1,6 +1,6 @@
 -- `is_in`: by the variant of the operand; only a text names a task.
 use Rattle.std.proofs.Common.{sym, ◌∙◌}
-use Rattle.paper_expressions.specs.Laws.Search.{no_clash}
+use Rattle.paper_expressions.proofs.Laws.Search.{no_clash}
 use Rattle.apply.specs.IsIn.{asked_text, asked_other}
 use Rattle.apply.proofs.states.is_in.Goals as goal
 
