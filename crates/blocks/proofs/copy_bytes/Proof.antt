@@ -21,7 +21,7 @@ loop-again : tie.Need-loop-k-preserved invariant-loop decreases-loop
 loop-again c =
     let a = c.before.before.before.before.before.before.before.before.before.args in
     let lp = c.before.before.before.before.before.before.loop-k in
-    (omega arith, copied_more a.from.now a.p a.to-1.now a.q lp.k lp.to-1 c.before.before.put_byte.new.0 c.before.before.before.byte.ensures c.before.before.put_byte.ensures lp.invariant.1)
+    (omega arith, copied_more a.from.now a.p a.to.now a.q lp.k lp.to c.before.before.put_byte.new.s c.before.before.before.byte.ensures c.before.before.put_byte.ensures lp.invariant.1)
 
 same_length : tie.Need-shape_of-to invariant-loop decreases-loop
 same_length c = c.before.loop-k.invariant.1.size
@@ -30,7 +30,7 @@ returns : tie.Need-returns invariant-loop decreases-loop
 returns c =
     let a = c.before.before.before.before.args in
     let lp = c.before.loop-k in
-    copied_all a.from.now a.p a.to-1.now a.q a.n lp.k lp.to-1 (omega arith) lp.invariant.1
+    copied_all a.from.now a.p a.to.now a.q a.n lp.k lp.to (omega arith) lp.invariant.1
 
 pub copy_bytes_spec : {M : Type 1} → statement M
 copy_bytes_spec =

@@ -23,7 +23,7 @@ loop-again c =
     let a = c.before.before.before.before.before.before.before.before.before.args in
     let lp = c.before.before.before.before.before.before.loop-k in
     let e : lp.k ≡ 0 + lp.k = omega arith in
-    (omega arith, copied_more (cells a.from.now a.p a.n) 0 a.to-1.now a.q lp.k lp.to-1 c.before.before.put_byte.new.0 (c.before.before.before.text_byte.ensures ∙ ap (λ (y : ℕ). get_or (cells a.from.now a.p a.n) y 0) e) c.before.before.put_byte.ensures lp.invariant.1)
+    (omega arith, copied_more (cells a.from.now a.p a.n) 0 a.to.now a.q lp.k lp.to c.before.before.put_byte.new.s (c.before.before.before.text_byte.ensures ∙ ap (λ (y : ℕ). get_or (cells a.from.now a.p a.n) y 0) e) c.before.before.put_byte.ensures lp.invariant.1)
 
 same_length : tie.Need-shape_of-to invariant-loop decreases-loop
 same_length c = c.before.loop-k.invariant.1.size
@@ -32,7 +32,7 @@ returns : tie.Need-returns invariant-loop decreases-loop
 returns c =
     let a = c.before.before.before.before.args in
     let lp = c.before.loop-k in
-    copied_all (cells a.from.now a.p a.n) 0 a.to-1.now a.q a.room lp.k lp.to-1 (omega arith) lp.invariant.1
+    copied_all (cells a.from.now a.p a.n) 0 a.to.now a.q a.room lp.k lp.to (omega arith) lp.invariant.1
 
 pub copy_text_spec : {M : Type 1} → statement M
 copy_text_spec =
