@@ -37,7 +37,7 @@ returns c =
     let l = v.0 in
     let z = c.loop-i-test.false in
     let e : c.before.loop-i.i ≡ a.n = omega arith in
-    gathered a.tasks a.rows.now a.n a.list-1.now c.before.loop-i.list-1 c.before.loop-i.m c.before.loop-i.i e v.2 v.3 v.4
+    gathered a.tasks a.rows.now a.n a.list.now c.before.loop-i.list c.before.loop-i.m c.before.loop-i.i e v.2 v.3 v.4
 
 pub gather_spec : {M : Type 1} → statement M
 gather_spec = tie.close (tie.spec invariant-loop decreases-loop loop-holds (λ c κs. search rules) (λ c. search rules) (λ c. search rules) loop-again same_length returns)

@@ -19,10 +19,10 @@ same_length : tie.Need-shape_of-list-then-m-list
 same_length c = simp length-set
 
 returns-2 : tie.Need-returns-then-m-list
-returns-2 c = let a = c.before.before.before.before.before.before.args in puts_room a.tasks a.rows.now a.list.now a.m a.i (sym (asked c.before.before) ∙ not-false _ c.before.if-not-wanted.false-raw) c.before.before.before.before.before.before.requires.0 c.if-m-list.true-raw
+returns-2 c = let a = c.before.before.before.before.before.before.args in puts_room a.tasks a.rows.now a.list.now a.m a.i (sym (asked c.before.before) ∙ not-false _ c.before.if-not-wanted.false-raw) c.before.before.before.before.before.before.requires.0 c.if-m-list.true
 
 returns-3 : tie.Need-returns
-returns-3 c = let a = c.before.before.before.before.before.before.args in puts_full a.tasks a.rows.now a.list.now a.m a.i (sym (asked c.before.before) ∙ not-false _ c.before.if-not-wanted.false-raw) c.before.before.before.before.before.before.requires.0 c.if-m-list.false-raw
+returns-3 c = let a = c.before.before.before.before.before.before.args in puts_full a.tasks a.rows.now a.list.now a.m a.i (sym (asked c.before.before) ∙ not-false _ c.before.if-not-wanted.false-raw) c.before.before.before.before.before.before.requires.0 c.if-m-list.false
 
 pub put_spec : {M : Type 1} → statement M
 put_spec =
