@@ -7,7 +7,7 @@ use Rattle.field_values.proofs.text.Statement.{statement}
 use Rattle.field_values.proofs.text.Tie as tie
 
 returns : tie.Need-returns-then-is_word
-returns c = rw (sym c.before.before.before.before.before.before.before.is_word.ensures ∙ c.before.before.before.before.before.before.if-is_word.true) (field_value c.before.before.before.put_unknown.ensures.0 c.before.before.before.put_unknown.ensures.1 (unknown_bytes c.before.before.before.before.before.before.before.before.before.before.before.before.args.bytes-1.now))
+returns c = rw (sym c.before.before.before.before.before.before.before.is_word.ensures ∙ c.before.before.before.before.before.before.if-is_word.true) (field_value c.before.before.before.put_unknown.ensures.0 c.before.before.before.put_unknown.ensures.1 (unknown_bytes c.before.before.before.before.before.before.before.before.before.before.before.before.args.bytes.now))
 
 returns-2 : tie.Need-returns
 returns-2 c = rw (sym c.before.before.before.before.before.before.before.before.before.before.is_word.ensures ∙ c.before.before.before.before.before.before.before.before.before.if-is_word.false) (field_value c.before.before.before.before.before.put_text.ensures.0 c.before.before.before.before.before.put_text.ensures.1 c.before.before.before.before.before.put_text.ensures.2)

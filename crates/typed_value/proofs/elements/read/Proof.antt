@@ -18,7 +18,7 @@ returns c =
     let h = c.before.before.inside.ensures in (
       search rules,
       rw (← c.before.before.before.before.before.before.byte-b.ensures, eq-eqb c.before.before.before.before.before.before.byte-b.result 34 c.before.before.before.before.before.if-b-eq34.true) (h.1 ∙ ap (λ (p : ℕ). element_of a.i (text_from a.s.now p)) f.1),
-      rw (← c.before.before.before.before.before.before.byte-b.ensures, eq-eqb c.before.before.before.before.before.before.byte-b.result 34 c.before.before.before.before.before.if-b-eq34.true) (h.2 ∙ ap (λ (p : ℕ). text_after a.i (text_from a.s.now p) a.bytes-1.now) f.1),
+      rw (← c.before.before.before.before.before.before.byte-b.ensures, eq-eqb c.before.before.before.before.before.before.byte-b.result 34 c.before.before.before.before.before.if-b-eq34.true) (h.2 ∙ ap (λ (p : ℕ). text_after a.i (text_from a.s.now p) a.bytes.now) f.1),
     )
 
 returns-2 : tie.Need-returns-then-b-eq45
@@ -29,7 +29,7 @@ returns-2 c =
     let h = c.unsigned.ensures in (
       search rules,
       rw (← c.before.before.before.before.byte-b.ensures, ne_eqb c.before.before.before.before.byte-b.result 34 c.before.before.before.if-b-eq34.false, eq-eqb c.before.before.before.before.byte-b.result 45 c.before.before.if-b-eq45.true) (h.1 a.i ∙ ap (λ (p : ℕ). element_of a.i (number_at true a.s.now p)) f.1),
-      rw (← c.before.before.before.before.byte-b.ensures, ne_eqb c.before.before.before.before.byte-b.result 34 c.before.before.before.if-b-eq34.false, eq-eqb c.before.before.before.before.byte-b.result 45 c.before.before.if-b-eq45.true) (number_bytes a.i a.bytes-1.now true a.s.now _),
+      rw (← c.before.before.before.before.byte-b.ensures, ne_eqb c.before.before.before.before.byte-b.result 34 c.before.before.before.if-b-eq34.false, eq-eqb c.before.before.before.before.byte-b.result 45 c.before.before.if-b-eq45.true) (number_bytes a.i a.bytes.now true a.s.now _),
     )
 
 returns-3 : tie.Need-returns-then-is_digit
@@ -39,7 +39,7 @@ returns-3 c =
     let h = c.unsigned-then-is_digit.ensures in (
       search rules,
       rw (← c.before.before.before.before.before.byte-b.ensures, ne_eqb c.before.before.before.before.before.byte-b.result 34 c.before.before.before.before.if-b-eq34.false, ne_eqb c.before.before.before.before.before.byte-b.result 45 c.before.before.before.if-b-eq45.false, sym c.before.before.is_digit.ensures ∙ c.before.if-is_digit.true) (h.1 a.i),
-      rw (← c.before.before.before.before.before.byte-b.ensures, ne_eqb c.before.before.before.before.before.byte-b.result 34 c.before.before.before.before.if-b-eq34.false, ne_eqb c.before.before.before.before.before.byte-b.result 45 c.before.before.before.if-b-eq45.false, sym c.before.before.is_digit.ensures ∙ c.before.if-is_digit.true) (number_bytes a.i a.bytes-1.now false a.s.now a.at),
+      rw (← c.before.before.before.before.before.byte-b.ensures, ne_eqb c.before.before.before.before.before.byte-b.result 34 c.before.before.before.before.if-b-eq34.false, ne_eqb c.before.before.before.before.before.byte-b.result 45 c.before.before.before.if-b-eq45.false, sym c.before.before.is_digit.ensures ∙ c.before.if-is_digit.true) (number_bytes a.i a.bytes.now false a.s.now a.at),
     )
 
 returns-4 : tie.Need-returns

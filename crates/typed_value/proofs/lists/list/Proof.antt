@@ -16,7 +16,7 @@ returns c =
     let e = ap (λ (x : Step). x.place) c.reached.ensures in (
       search rules,
       rw (← c.before.before.before.before.before.before.before.byte.ensures, eq-eqb c.before.before.before.before.before.before.before.byte.result 93 c.before.before.before.before.before.before.if-byte-eq93.true)
-          (no_elements a.tags-1.now a.numbers-1.now a.bytes-1.now (after_of a.s.now a.at) (c.reached.ensures ∙ ap {B = Step} (λ (p : ℕ). record { place = p; slip = Fine }) c.before.after.ensures.1) c.before.before.before.before.put_shape.ensures),
+          (no_elements a.tags.now a.numbers.now a.bytes.now (after_of a.s.now a.at) (c.reached.ensures ∙ ap {B = Step} (λ (p : ℕ). record { place = p; slip = Fine }) c.before.after.ensures.1) c.before.before.before.before.put_shape.ensures),
     )
 
 returns-2 : tie.Need-returns

@@ -21,7 +21,7 @@ returns c =
     let f : SFits w64 c.before.before.before.before.before.before.before.before.before.before.before.read-e.result.number = search rules in (
       search rules,
       as_step a.i (element_at a.s.now a.at) h.1 c.reached.ensures,
-      as_put a.i (element_at a.s.now a.at) a.tags-1.now a.numbers-1.now a.bytes-1.now h.1 c.before.before.before.before.before.before.before.put_cell.ensures (c.before.before.put_number.ensures ∙ ap (λ (z : ℤ). set a.numbers-1.now (1 + a.i) z) (to_z-of_z f)) h.2,
+      as_put a.i (element_at a.s.now a.at) a.tags.now a.numbers.now a.bytes.now h.1 c.before.before.before.before.before.before.before.put_cell.ensures (c.before.before.put_number.ensures ∙ ap (λ (z : ℤ). set a.numbers.now (1 + a.i) z) (to_z-of_z f)) h.2,
     )
 
 pub put_element_spec : {M : Type 1} → statement M

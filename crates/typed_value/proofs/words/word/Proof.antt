@@ -43,7 +43,7 @@ unfolding word_from
 returns-4 c =
     let a = c.before.before.before.before.before.before.before.before.before.before.before.before.before.before.before.before.before.before.before.args in
     let e = ap (λ (x : Element). x.place) c.found-then-is_answer.ensures in
-    let h = is_answer a.s.now a.at c.before.before.before.before.before.before.before.before.before.before.before.before.before.before.before.before.word_end-to.result a.i a.bytes-1.now c.found-then-is_answer.ensures (to_z-of_z (sfits_of c.before.before.before.copy.type-inv) ∙ c.before.before.before.copy.ensures.0) c.before.before.before.copy.ensures.1 (sym c.before.before.before.before.before.before.is_answer.ensures ∙ c.before.before.before.before.before.if-is_answer.true) in (
+    let h = is_answer a.s.now a.at c.before.before.before.before.before.before.before.before.before.before.before.before.before.before.before.before.word_end-to.result a.i a.bytes.now c.found-then-is_answer.ensures (to_z-of_z (sfits_of c.before.before.before.copy.type-inv) ∙ c.before.before.before.copy.ensures.0) c.before.before.before.copy.ensures.1 (sym c.before.before.before.before.before.before.is_answer.ensures ∙ c.before.before.before.before.before.if-is_answer.true) in (
       search rules,
       rw (← c.before.before.before.before.before.before.before.before.before.before.before.before.before.before.before.before.word_end-to.ensures.1, sym c.before.before.before.before.before.before.before.before.before.before.before.before.before.before.is_word.ensures ∙ c.before.before.before.before.before.before.before.before.before.before.before.before.before.if-is_word.false, sym c.before.before.before.before.before.before.before.before.before.before.before.is_word-2.ensures ∙ c.before.before.before.before.before.before.before.before.before.before.if-is_word-2.false, sym c.before.before.before.before.before.before.before.before.is_word-3.ensures ∙ c.before.before.before.before.before.before.before.if-is_word-3.false) h.0,
       rw (← c.before.before.before.before.before.before.before.before.before.before.before.before.before.before.before.before.word_end-to.ensures.1, sym c.before.before.before.before.before.before.before.before.before.before.before.before.before.before.is_word.ensures ∙ c.before.before.before.before.before.before.before.before.before.before.before.before.before.if-is_word.false, sym c.before.before.before.before.before.before.before.before.before.before.before.is_word-2.ensures ∙ c.before.before.before.before.before.before.before.before.before.before.if-is_word-2.false, sym c.before.before.before.before.before.before.before.before.is_word-3.ensures ∙ c.before.before.before.before.before.before.before.if-is_word-3.false) h.1,
@@ -54,7 +54,7 @@ unfolding word_from
 returns-5 c =
     let a = c.before.before.before.before.before.before.before.before.before.before.before.before.before.before.before.args in
     let e = ap (λ (x : Element). x.place) c.wrong.ensures in
-    let h = no_answer a.s.now a.at c.before.before.before.before.before.before.before.before.before.before.before.before.word_end-to.result a.i c.wrong.result a.bytes-1.now c.wrong.ensures (sym c.before.before.is_answer.ensures ∙ c.before.if-is_answer.false) in (
+    let h = no_answer a.s.now a.at c.before.before.before.before.before.before.before.before.before.before.before.before.word_end-to.result a.i c.wrong.result a.bytes.now c.wrong.ensures (sym c.before.before.is_answer.ensures ∙ c.before.if-is_answer.false) in (
       search rules,
       rw (← c.before.before.before.before.before.before.before.before.before.before.before.before.word_end-to.ensures.1, sym c.before.before.before.before.before.before.before.before.before.before.is_word.ensures ∙ c.before.before.before.before.before.before.before.before.before.if-is_word.false, sym c.before.before.before.before.before.before.before.is_word-2.ensures ∙ c.before.before.before.before.before.before.if-is_word-2.false, sym c.before.before.before.before.is_word-3.ensures ∙ c.before.before.before.if-is_word-3.false) h.0,
       rw (← c.before.before.before.before.before.before.before.before.before.before.before.before.word_end-to.ensures.1, sym c.before.before.before.before.before.before.before.before.before.before.is_word.ensures ∙ c.before.before.before.before.before.before.before.before.before.if-is_word.false, sym c.before.before.before.before.before.before.before.is_word-2.ensures ∙ c.before.before.before.before.before.before.if-is_word-2.false, sym c.before.before.before.before.is_word-3.ensures ∙ c.before.before.before.if-is_word-3.false) h.1,
