@@ -16,7 +16,7 @@ returns c =
     let s = c.before.before.before.before.before.before.before.before.before.before.before.args.s.now in
     let at = c.before.before.before.before.before.before.before.before.before.before.before.args.at in
     let t = c.before.before.trigger.ensures in (
-      t.0 ∙ ap (λ (p : ℕ). trigger_in s p c.before.before.before.before.before.before.before.before.before.before.before.args.bytes-1.now) c.before.before.before.before.behind.ensures ∙ when_nowhere (trigger_in s (behind_word s at (bytes "rigger ")) c.before.before.before.before.before.before.before.before.before.before.before.args.bytes-1.now) c.before.before.before.before.before.before.before.before.before.before.before.args.bytes-1.now c.before.before.before.before.before.before.before.behind-p.ensures c.before.before.before.before.before.before.if-p.true,
+      t.0 ∙ ap (λ (p : ℕ). trigger_in s p c.before.before.before.before.before.before.before.before.before.before.before.args.bytes.now) c.before.before.before.before.behind.ensures ∙ when_nowhere (trigger_in s (behind_word s at (bytes "rigger ")) c.before.before.before.before.before.before.before.before.before.before.before.args.bytes.now) c.before.before.before.before.before.before.before.before.before.before.before.args.bytes.now c.before.before.before.before.before.before.before.behind-p.ensures c.before.before.before.before.before.before.if-p.true,
       stands_not (time_line s (behind_word s at (bytes "ime "))) c.before.before.before.before.before.before.before.behind-p.ensures c.before.before.before.before.before.before.if-p.true (t.1 ∙ ap (λ (p : ℕ). trigger_line s p) c.before.before.before.before.behind.ensures),
     )
 
@@ -24,7 +24,7 @@ returns-2 : tie.Need-returns
 returns-2 c =
     let s = c.before.before.before.before.before.before.args.s.now in
     let at = c.before.before.before.before.before.before.args.at in
-    (when_stands (trigger_in s (behind_word s at (bytes "rigger ")) c.before.before.before.before.before.before.args.bytes-1.now) c.before.before.before.before.before.before.args.bytes-1.now c.before.before.behind-p.ensures c.before.if-p.false, stands (trigger_line s (behind_word s at (bytes "rigger "))) c.before.before.behind-p.ensures c.before.if-p.false (c.time.ensures ∙ ap (λ (p : ℕ). time_line s p) c.before.before.behind-p.ensures))
+    (when_stands (trigger_in s (behind_word s at (bytes "rigger ")) c.before.before.before.before.before.before.args.bytes.now) c.before.before.before.before.before.before.args.bytes.now c.before.before.behind-p.ensures c.before.if-p.false, stands (trigger_line s (behind_word s at (bytes "rigger "))) c.before.before.behind-p.ensures c.before.if-p.false (c.time.ensures ∙ ap (λ (p : ℕ). time_line s p) c.before.before.behind-p.ensures))
 
 pub time_or_trigger_spec : {M : Type 1} → statement M
 time_or_trigger_spec =

@@ -15,7 +15,7 @@ abbrev decreases-loop : tie.decreases-loop-p
 decreases-loop s at bytes₀ from n₀ p₀ bytes n p = length s - p
 
 loop-holds : tie.Need-loop-p-init invariant-loop decreases-loop
-loop-holds c = let a = c.before.before.args in (search rules, reading_none a.s.now a.at a.bytes-1.now a.from)
+loop-holds c = let a = c.before.before.args in (search rules, reading_none a.s.now a.at a.bytes.now a.from)
 
 returns : tie.Need-returns-then-s-p-lt2 invariant-loop decreases-loop
 returns c = reading_end c.before.before.loop-p.invariant.1 (text_short c.before.before.before.before.before.args.s.now c.before.before.loop-p.p (omega arith))

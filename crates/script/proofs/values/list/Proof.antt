@@ -23,7 +23,7 @@ decreases-loop s at tags₀ numbers₀ bytes₀ p₀ n₀ tags numbers bytes p n
 loop-holds : tie.Need-loop-n-init invariant-loop decreases-loop
 loop-holds c =
     let a = c.before.before.before.args in
-    (search rules, search rules, search rules, search rules, refl, filling_none a.s.now (places_from a.s.now 20 a.at) a.tags-1.now a.numbers-1.now a.bytes-1.now)
+    (search rules, search rules, search rules, search rules, refl, filling_none a.s.now (places_from a.s.now 20 a.at) a.tags.now a.numbers.now a.bytes.now)
 
 returns : tie.Need-returns-then-byte-eq41 invariant-loop decreases-loop
 returns c =

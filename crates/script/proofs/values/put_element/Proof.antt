@@ -16,7 +16,7 @@ returns c =
     let f : SFits w64 c.before.before.before.before.before.before.before.before.before.before.element_at-e.result.number = search rules in
     let n = c.before.put_number.ensures in
     let k = e.number_is in
-    (record { tags_are = c.before.before.before.before.before.before.put_cell.ensures ∙ ap (λ (x : ℕ). set a.tags-1.now (1 + a.i) x) e.tag_is; numbers_are = cc (to_z-of_z f); bytes_are = c.before.before.before.before.before.before.before.before.before.before.element_at-e.ensures.1 }, e.next_is)
+    (record { tags_are = c.before.before.before.before.before.before.put_cell.ensures ∙ ap (λ (x : ℕ). set a.tags.now (1 + a.i) x) e.tag_is; numbers_are = cc (to_z-of_z f); bytes_are = c.before.before.before.before.before.before.before.before.before.before.element_at-e.ensures.1 }, e.next_is)
 
 pub put_element_spec : {M : Type 1} → statement M
 put_element_spec =

@@ -13,8 +13,8 @@ returns c =
     let a = c.before.before.before.before.before.before.args in
     let cut = c.before.before.before.before.cut_off.ensures in
     let ended = c.before.before.end_record.ensures in (
-      ended.0 ∙ ap (record_ended (length a.ends-1.now)) cut,
-      ended.1 ∙ ap (λ (s : Scan). set a.ends-1.now s.fields s.n) cut ∙ cut_ends a.s.mode a.s a.ends-1.now,
+      ended.0 ∙ ap (record_ended (length a.ends.now)) cut,
+      ended.1 ∙ ap (λ (s : Scan). set a.ends.now s.fields s.n) cut ∙ cut_ends a.s.mode a.s a.ends.now,
     )
 
 pub finish_spec : {M : Type 1} → statement M
