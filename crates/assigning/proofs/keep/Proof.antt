@@ -7,7 +7,7 @@ use Rattle.assigning.proofs.keep.Tie as tie
 returns : tie.Need-returns
 returns c =
     let a = c.before.before.before.before.before.before.before.before.before.before.before.before.before.before.before.before.args in
-    keeps a.cells.now a.out.now a.d a.mark a.news-1.now a.texts-1.now c.before.before.before.before.before.before.before.before.before.before.before.before.before.before.before.before.requires c.before.before.before.before.before.before.before.before.before.before.put_cell.ensures c.before.before.before.before.before.before.copy_cells.ensures c.before.before.copy_bytes.ensures
+    keeps a.cells.now a.out.now a.d a.mark a.news.now a.texts.now c.before.before.before.before.before.before.before.before.before.before.before.before.before.before.before.before.requires c.before.before.before.before.before.before.before.before.before.before.put_cell.ensures c.before.before.before.before.before.before.copy_cells.ensures c.before.before.copy_bytes.ensures
 
 pub keep_spec : {M : Type 1} → statement M
 keep_spec =

@@ -21,7 +21,7 @@ loop-again : tie.Need-loop-d-preserved invariant-loop decreases-loop
 loop-again c =
     let a = c.before.before.before.before.before.before.before.before.before.before.before.before.before.args in
     let lp = c.before.before.before.before.before.before.before.before.loop-d in
-    (omega arith, stored_more a.news.now a.texts.now lp.d a.s-1.now lp.s-1 c.before.before.before.before.store_one.new.1.1.1.0 a.b-1.now lp.b-1 c.before.before.before.before.store_one.new.1.1.1.1.0 (omega arith) lp.invariant.1 c.before.before.before.before.store_one.ensures)
+    (omega arith, stored_more a.news.now a.texts.now lp.d a.s.now lp.s c.before.before.before.before.store_one.new.s a.b.now lp.b c.before.before.before.before.store_one.new.b (omega arith) lp.invariant.1 c.before.before.before.before.store_one.ensures)
 
 same_length : tie.Need-shape_of-s invariant-loop decreases-loop
 same_length c = c.before.loop-d.invariant.1.rest.size
@@ -33,7 +33,7 @@ returns : tie.Need-returns invariant-loop decreases-loop
 returns c =
     let a = c.before.before.before.before.before.before.args in
     let lp = c.before.loop-d in
-    stored_all a.news.now a.texts.now lp.d a.s-1.now lp.s-1 a.b-1.now lp.b-1 (omega arith) lp.invariant.1
+    stored_all a.news.now a.texts.now lp.d a.s.now lp.s a.b.now lp.b (omega arith) lp.invariant.1
 
 pub store_spec : {M : Type 1} → statement M
 store_spec =
