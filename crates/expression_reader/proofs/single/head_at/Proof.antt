@@ -7,13 +7,13 @@ use Rattle.expression_reader.proofs.single.head_at.Statement.{statement}
 use Rattle.expression_reader.proofs.single.head_at.Tie as tie
 
 head-requires : tie.Need-head-requires
-head-requires c κs = c.before.fits2.ensures.0 c.if-fits.true
+head-requires c κs = c.before.fits.ensures.0 c.if-fits.true
 
 returns : tie.Need-returns-then-fits
 returns c = λ ks t h b s l. said_head h _ b s l c.before.before.before.before.cell-at.ensures c.before.before.before.cell-n.ensures c.head.ensures
 
 returns-2 : tie.Need-returns
-returns-2 c = λ ks t h b s l. contra (sym c.if-fits.false ∙ c.before.fits2.ensures.1 (token_fits h c.before.before.before.cell-at.ensures c.before.before.cell-n.ensures))
+returns-2 c = λ ks t h b s l. contra (sym c.if-fits.false ∙ c.before.fits.ensures.1 (token_fits h c.before.before.before.cell-at.ensures c.before.before.cell-n.ensures))
 
 pub head_at_spec : {M : Type 1} → statement M
 head_at_spec =
