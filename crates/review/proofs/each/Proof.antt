@@ -17,7 +17,7 @@ decreases-loop s f clock out₀ initialises starts discards completes n m₀ t�
 loop-holds : tie.Need-loop-t-init invariant-loop decreases-loop
 loop-holds c =
     let a = c.before.before.before.before.args in
-    (omega arith, refl, each_none a.s.now a.f.now a.clock a.t4 a.t5 a.t6 a.t7 a.out-1.now, few_none a.f.now)
+    (omega arith, refl, each_none a.s.now a.f.now a.clock a.initialises a.starts a.discards a.completes a.out.now, few_none a.f.now)
 
 review-one-requires : tie.Need-review_one-m-requires invariant-loop decreases-loop
 review-one-requires c κs =
@@ -29,14 +29,14 @@ loop-again c =
     let a = c.before.before.before.before.before.before.before.before.before.before.args in
     let lp = c.before.before.before.before.before.loop-t in
     let n = c.before.before.before.before.before.before.tasks-n in
-    (omega arith, search rules, each_more a.s.now a.f.now a.clock a.t4 a.t5 a.t6 a.t7 lp.t a.out-1.now lp.out-1 lp.m c.before.before.review_one-m.new.1.1.1.1.1.1.1.1.0 c.before.before.review_one-m.result (λ l. (let e = n.ensures.1 l in omega arith)) lp.invariant.2 c.before.before.review_one-m.ensures.0, few_more a.f.now lp.t lp.m c.before.before.review_one-m.result c.before.before.review_one-m.ensures.1 lp.invariant.3)
+    (omega arith, search rules, each_more a.s.now a.f.now a.clock a.initialises a.starts a.discards a.completes lp.t a.out.now lp.out lp.m c.before.before.review_one-m.new.out c.before.before.review_one-m.result (λ l. (let e = n.ensures.1 l in omega arith)) lp.invariant.2 c.before.before.review_one-m.ensures.0, few_more a.f.now lp.t lp.m c.before.before.review_one-m.result c.before.before.review_one-m.ensures.1 lp.invariant.3)
 
 returns : tie.Need-returns invariant-loop decreases-loop
 returns c =
     let a = c.before.before.before.before.before.before.args in
     let lp = c.before.loop-t in
     let n = c.before.before.tasks-n in
-    (each_all a.s.now a.f.now a.clock a.t4 a.t5 a.t6 a.t7 lp.t a.out-1.now lp.out-1 lp.m (λ l. (let e = n.ensures.1 l in omega arith)) lp.invariant.2, few_all a.f.now lp.t lp.m (λ l. (let e = n.ensures.1 l in omega arith)) lp.invariant.3)
+    (each_all a.s.now a.f.now a.clock a.initialises a.starts a.discards a.completes lp.t a.out.now lp.out lp.m (λ l. (let e = n.ensures.1 l in omega arith)) lp.invariant.2, few_all a.f.now lp.t lp.m (λ l. (let e = n.ensures.1 l in omega arith)) lp.invariant.3)
 
 pub each_spec : {M : Type 1} → statement M
 each_spec =
