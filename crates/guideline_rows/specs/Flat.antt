@@ -23,7 +23,7 @@ pub data Shape : Type 0 where
   -- outside: a task's or a data item's first line, an attribute, an end
   task_line data_lines expression_line name_line answer_line constraint_line postcondition_word end_line : Shape
   -- in a postcondition
-  opening assignment_there closing GoingOn finish : Shape
+  opening assignment_there closing going_on finish : Shape
 
 -- the first of these tests that holds
 abbrev pub lines : Bool → Bool → Bool → Bool → Bool → Bool → Bool → Shape
@@ -40,7 +40,7 @@ shape_outside k =
 abbrev pub shape : Mode → ℕ → Shape
 shape outside k = shape_outside k
 shape front k = cond (eqb k “open”) opening assignment_there
-shape behind k = cond (eqb k “close”) closing (cond (eqb k “and”) GoingOn finish)
+shape behind k = cond (eqb k “close”) closing (cond (eqb k “and”) going_on finish)
 
 -- Turn s w r m rows: of the tokens w, a turn of shape s passes those before r, on to m, and gives the rows, one or none
 pub data Turn : Shape → List Token → List Token → Mode → List Row → Type 0 where
@@ -64,7 +64,7 @@ pub data Turn : Shape → List Token → List Token → Mode → List Row → Ty
       → t.rule ≡ atom → Tree assigned 1 (x ∷ w) r e → Ends assigned r
       → Turn assignment_there (t ∷ q ∷ x ∷ w) r behind (an_assignment (record { target = named t; value = record { start = x.place; tree = e } }) ∷ [])
   closes : {t : Token} {r : List Token} → Turn closing (t ∷ r) r behind []
-  goes_on : {t : Token} {r : List Token} → Turn GoingOn (t ∷ r) r front []
+  goes_on : {t : Token} {r : List Token} → Turn going_on (t ∷ r) r front []
   finishes : {t : Token} {r : List Token} → Turn finish (t ∷ r) r outside []
 
 -- Flat m w rows: from there on the tokens w give these rows

@@ -46,6 +46,7 @@ meaning (n means o) = o
 functor_name : {i : ℕ} {x : Operators.Name} {l : List Operators.Name} → Each (λ (y : Operators.Name). name (meaning y) ≡ []) l → At l i x → name (meaning x) ≡ []
 functor_name (p & ps) at_first = p
 functor_name (p & ps) (at_later h) = functor_name ps h
+functor_name {i = i} all x4 = elim x4 [ ]
 
 functor_short : {n : List ℕ} {o : Op} → length n ≤ text_limit → Functor n o → length (name o) ≤ text_limit
 functor_short h (of_section_11 {o = o} a) = no_name o (functor_name (refl & refl & refl & refl & refl & refl & refl & refl & refl & refl & refl & refl & refl & all) a)
@@ -124,6 +125,7 @@ flat_good (turn e x k) f = let y = turn_good x f in both y.1 (flat_good k y.0)
 good_at : {rows : List Row} {i : ℕ} {r : Row} → Each Good rows → At rows i r → Good r
 good_at (h & hs) at_first = h
 good_at (h & hs) (at_later k) = good_at hs k
+good_at {i = i} {r = r} all x3 = elim x3 [ ]
 
 each_fine : (ts : List Token) → ((i : ℕ) (t : Token) → At ts i t → Fine t) → Each Fine ts
 each_fine [] f = all

@@ -319,6 +319,7 @@ record LargeIn (l : List Typed) (p : ℕ) : Type 0 where
 large_at : (l : List Typed) {p : ℕ} → LargeAt (outer l) p → LargeIn l p
 large_at (x ∷ l) (here h) = record { i = 0; x = x; at = at_first; large = h; start = refl }
 large_at (x ∷ l) (later h) = let r = large_at l h in record { i = suc r.i; x = r.x; at = at_later r.at; large = r.large; start = r.start }
+large_at [] {p = p} x' = elim x' [ ]
 
 at_large : {l : List Typed} {i : ℕ} {x : Typed} → At l i x → Large x.expression.tree → LargeAt (outer l) x.expression.start
 at_large at_first h = here h
