@@ -11,11 +11,11 @@ use Rattle.names.proofs.walk.mark.Tie as tie
 returns : tie.Need-returns-then-marks-k
 returns c =
     let a = c.before.before.before.before.before.args in
-    let l = c.if-marks-k.true-raw in
+    let l = c.if-marks-k.true in
     mark_not a.rows.now a.n a.bytes.now a.tasks.now a.t a.k a.marks.now (λ u. absurd (omega arith))
 
 returns-2 : tie.Need-returns-then-marks-k-ne-NONE
-returns-2 c = let a = c.before.before.before.before.before.before.before.args in mark_not a.rows.now a.n a.bytes.now a.tasks.now a.t a.k a.marks.now (λ u. c.if-marks-k-ne-NONE.true-raw)
+returns-2 c = let a = c.before.before.before.before.before.before.before.args in mark_not a.rows.now a.n a.bytes.now a.tasks.now a.t a.k a.marks.now (λ u. c.if-marks-k-ne-NONE.true)
 
 returns-3 : tie.Need-returns-then-not-follows
 returns-3 c = let a = c.before.before.before.before.before.before.before.before.before.args in mark_no a.rows.now a.n a.bytes.now a.tasks.now a.t a.k a.marks.now c.before.follows.ensures (not-true _ c.if-not-follows.true-raw)
@@ -26,7 +26,7 @@ same_length c = simp length-set
 returns-4 : tie.Need-returns
 returns-4 c =
     let a = c.before.before.before.before.before.before.before.before.before.args in
-    mark_yes a.rows.now a.n a.bytes.now a.tasks.now a.t a.k a.marks.now (let l = c.before.before.before.before.if-marks-k.false-raw in omega arith) c.before.before.if-marks-k-ne-NONE.false-raw c.before.follows.ensures (not-false _ c.if-not-follows.false-raw)
+    mark_yes a.rows.now a.n a.bytes.now a.tasks.now a.t a.k a.marks.now (let l = c.before.before.before.before.if-marks-k.false in omega arith) c.before.before.if-marks-k-ne-NONE.false c.before.follows.ensures (not-false _ c.if-not-follows.false-raw)
 
 pub mark_spec : {M : Type 1} → statement M
 mark_spec =

@@ -21,27 +21,27 @@ returns : tie.Need-returns-then-marks-eq0 invariant-loop decreases-loop
 returns c = record { long = refl; told = λ g. absurd (no_marks g c.if-marks-eq0.true) }
 
 loop-holds : tie.Need-loop-i-init invariant-loop decreases-loop
-loop-holds c = let a = c.before.before.before.before.before.before.before.args in (refl, c.waiting-i.ensures, λ blank e g. subst (Walked (sheet a.rows.now a.n a.bytes.now) a.tasks.now a.m) (sym e) (walk_first g))
+loop-holds c = let a = c.args in (refl, c.waiting-i.ensures, λ blank e g. subst (Walked (sheet a.rows.now a.n a.bytes.now) a.tasks.now a.m) (sym e) (walk_first g))
 
 loop-less : tie.Need-loop-i-smaller invariant-loop decreases-loop
-loop-less c = let w = c.before.before.before.before.spread.ensures in lacks c.before.before.before.before.before.before.before.before.loop-i.invariant.1 c.before.before.before.before.before.before.before.loop-i-test.true w.0 w.1
+loop-less c = let w = c.spread.ensures in lacks c.loop-i.invariant.1 c.loop-i-test.true w.0 w.1
 
 loop-again : tie.Need-loop-i-preserved invariant-loop decreases-loop
 loop-again c =
-    let v = c.before.before.before.before.before.before.before.before.loop-i.invariant in
-    let w = c.before.before.before.before.spread.ensures in
-    let l = w.0 ∙ length-set c.before.before.before.before.before.before.before.before.loop-i.marks-1 c.before.before.before.before.before.before.before.before.loop-i.i 2 ∙ v.0 in
-    (l, c.waiting-i-in-loop-i.ensures, λ blank e g. walk_next g (v.2 blank e g) v.1 (v.0 ∙ subst (λ (z : List ℕ). length z ≡ length blank) (sym e) (length-set blank 0 1)) c.before.before.before.before.before.before.before.loop-i-test.true c.before.before.before.before.before.before.number.ensures w)
+    let v = c.loop-i.invariant in
+    let w = c.spread.ensures in
+    let l = w.0 ∙ length-set c.loop-i.marks c.loop-i.i 2 ∙ v.0 in
+    (l, c.waiting-i-in-loop-i.ensures, λ blank e g. walk_next g (v.2 blank e g) v.1 (v.0 ∙ subst (λ (z : List ℕ). length z ≡ length blank) (sym e) (length-set blank 0 1)) c.loop-i-test.true c.number.ensures w)
 
 same_length : tie.Need-shape_of-marks invariant-loop decreases-loop
-same_length c = c.before.loop-i.invariant.0 ∙ length-set c.before.before.before.before.before.before.before.before.before.args.marks-1.now 0 1
+same_length c = c.loop-i.invariant.0 ∙ length-set c.args.marks.now 0 1
 
 returns-2 : tie.Need-returns invariant-loop decreases-loop
 returns-2 c =
-    let a = c.before.before.before.before.before.before.before.before.before.args in
-    let v = c.before.loop-i.invariant in
-    let l = v.0 ∙ length-set a.marks-1.now 0 1 in
-    record { long = l; told = λ g. walk_end g (v.2 a.marks-1.now refl g) v.1 l c.loop-i-test.false }
+    let a = c.args in
+    let v = c.loop-i.invariant in
+    let l = v.0 ∙ length-set a.marks.now 0 1 in
+    record { long = l; told = λ g. walk_end g (v.2 a.marks.now refl g) v.1 l c.loop-i-test.false }
 
 pub reach_spec : {M : Type 1} → statement M
 reach_spec =

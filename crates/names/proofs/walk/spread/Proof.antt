@@ -16,7 +16,7 @@ abbrev decreases-loop : tie.decreases-loop-k
 decreases-loop rows n bytes tasks m t marks₀ k₀ marks k = m - k
 
 loop-holds : tie.Need-loop-k-init invariant-loop decreases-loop
-loop-holds c = let a = c.before.before.before.before.args in (omega arith, refl, record { over = λ i. omega arith }, λ u. spread_none (sheet a.rows.now a.n a.bytes.now) a.tasks.now a.t a.marks-1.now)
+loop-holds c = let a = c.before.before.before.before.args in (omega arith, refl, record { over = λ i. omega arith }, λ u. spread_none (sheet a.rows.now a.n a.bytes.now) a.tasks.now a.t a.marks.now)
 
 loop-again : tie.Need-loop-k-preserved invariant-loop decreases-loop
 loop-again c =
@@ -34,7 +34,7 @@ returns c =
     let l = v.0 in
     let z = c.loop-k-test.false in
     let e : c.before.loop-k.k ≡ a.m = omega arith in
-    (v.1, v.2, λ u. subst (λ (i : ℕ). Spread (sheet a.rows.now a.n a.bytes.now) a.tasks.now i a.t a.marks-1.now c.before.loop-k.marks-1) e (v.3 u))
+    (v.1, v.2, λ u. subst (λ (i : ℕ). Spread (sheet a.rows.now a.n a.bytes.now) a.tasks.now i a.t a.marks.now c.before.loop-k.marks) e (v.3 u))
 
 pub spread_spec : {M : Type 1} → statement M
 spread_spec = tie.close (tie.spec invariant-loop decreases-loop loop-holds (λ c κs. search rules) (λ c. search rules) (λ c. search rules) loop-again same_length returns)
