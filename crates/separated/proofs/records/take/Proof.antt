@@ -25,20 +25,20 @@ returns c =
     let a = c.before.before.before.before.before.before.before.before.before.before.before.before.before.before.args in
     let l = c.before.before.before.before.before.before.before.before.before.before.loop-at in
     let more : l.at < length a.chunk.now = c.before.before.before.before.before.before.before.before.before.loop-at-test.true in
-    sym (l.invariant.2 ∙ read_ended a.separator l.at (read l.s l.auto l.ends) a.chunk.now more c.before.before.before.before.before.advance-s.ensures c.if-s.true)
+    sym (l.invariant.2 ∙ read_ended a.separator l.at (read l.s l.kept l.ends) a.chunk.now more c.before.before.before.before.before.advance-s.ensures c.if-s.true)
 
 loop-again : tie.Need-loop-at-preserved invariant-loop decreases-loop
 loop-again c =
     let a = c.before.before.before.before.before.before.before.before.before.before.before.before.before.before.args in
     let l = c.before.before.before.before.before.before.before.before.before.before.loop-at in
     let more : l.at < length a.chunk.now = c.before.before.before.before.before.before.before.before.before.loop-at-test.true in
-    (search rules, search rules, l.invariant.2 ∙ read_more a.separator l.at (read l.s l.auto l.ends) a.chunk.now more c.before.before.before.before.before.advance-s.ensures c.if-s.false)
+    (search rules, search rules, l.invariant.2 ∙ read_more a.separator l.at (read l.s l.kept l.ends) a.chunk.now more c.before.before.before.before.before.advance-s.ensures c.if-s.false)
 
 returns-2 : tie.Need-returns invariant-loop decreases-loop
 returns-2 c =
     let a = c.before.before.before.before.before.args in
     let l = c.before.loop-at in
-    sym (l.invariant.2 ∙ all_read a.separator l.at (read l.s l.auto l.ends) a.chunk.now (omega arith))
+    sym (l.invariant.2 ∙ all_read a.separator l.at (read l.s l.kept l.ends) a.chunk.now (omega arith))
 
 pub take_spec : {M : Type 1} → statement M
 take_spec =
