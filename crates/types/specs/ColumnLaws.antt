@@ -102,7 +102,7 @@ module _ {x : List ℕ} {t : Table} (g : List TopLevel) (e : Encoded (flatten g)
   and_more : {l k : List ℕ} {i m : ℕ} {r : Row} {y : Item} → At (flatten g) i r → item_of r ≡ some y → Holding t.bytes l k (items_to i ++ (y ∷ [])) m → Holds l k (suc i) m
   and_more {l} {k} {i} {m} h q s = subst (λ (z : List Item). Holding t.bytes l k z m) (sym (items_more h ∙ ap (λ (o : Option Item). items_to i ++ keep o []) q)) s
 
-  hold_more : {l k l' k' : List ℕ} {m i m' : ℕ} {r : Row} → At (flatten g) i r → i < row_limit → Puts x l k m i l' k' m' → Holds l k i m → Holds l' k' (suc i) m'
+  hold_more : {l k : List ℕ} {m i : ℕ} {l' k' : List ℕ} {m' : ℕ} {r : Row} → At (flatten g) i r → i < row_limit → Puts x l k m i l' k' m' → Holds l k i m → Holds l' k' (suc i) m'
   hold_more {l} {k} {m = m} {i} {r = r} h u (passed n) s = go (item_of r) refl
     where
       go : (o : Option Item) → item_of r ≡ o → Holds l k (suc i) m
@@ -134,12 +134,12 @@ going_more {l' = l'} {k'} {i = i} {m'} u w p s g t e lim c =
     let r = at_index (flatten g) i (omega arith) in
     subst (λ (j : ℕ). Holding t.bytes l' k' (select item_of (take j (flatten g))) m') (sym (add-one i)) (hold_more g e lim r.1 (omega arith) p (s g t e lim c))
 
-pub puts_few : {x l k l' k' : List ℕ} {m i m' : ℕ} → Puts x l k m i l' k' m' → m' ≤ m + 1
+pub puts_few : {x l k : List ℕ} {m i : ℕ} {l' k' : List ℕ} {m' : ℕ} → Puts x l k m i l' k' m' → m' ≤ m + 1
 puts_few (passed n) = omega arith
 puts_few (full c f) = omega arith
 puts_few (put c a b) = omega arith
 
-pub puts_long : {x l k l' k' : List ℕ} {m i m' : ℕ} → Puts x l k m i l' k' m' → (length l' ≡ length l) × (length k' ≡ length k)
+pub puts_long : {x l k : List ℕ} {m i : ℕ} {l' k' : List ℕ} {m' : ℕ} → Puts x l k m i l' k' m' → (length l' ≡ length l) × (length k' ≡ length k)
 puts_long (passed n) = (refl, refl)
 puts_long (full c f) = (refl, refl)
 puts_long {x} {l} {k} {m = m} {i} (put c a b) = (length-set l m (get_or x (i * 8 + 2) 0), length-set k m (get_or x (i * 8 + 7) 0 % 256))

@@ -12,7 +12,7 @@ slice-aggregate-misfits c = simp length-take (omega arith)
 
 returns : tie.Need-returns
 returns c =
-    let a = c.before.before.before.before.before.before.before.args in
+    let a = c.args in
     judged_with a.rows.now a.n (table a.cells.now a.bytes.now) a.names.now a.types.now a.m c.misfits.result c.misfits.ensures
 
 pub judged_spec : {M : Type 1} → statement M

@@ -16,7 +16,7 @@ abbrev decreases-loop : tie.decreases-loop-i
 decreases-loop rows n names₀ types₀ m₀ i₀ names types m i = n - i
 
 loop-holds : tie.Need-loop-i-init invariant-loop decreases-loop
-loop-holds c = let a = c.before.before.before.args in (omega arith, omega arith, refl, refl, going_first a.rows.now a.n a.names-1.now a.types-1.now)
+loop-holds c = let a = c.before.before.before.args in (omega arith, omega arith, refl, refl, going_first a.rows.now a.n a.names.now a.types.now)
 
 loop-again : tie.Need-loop-i-preserved invariant-loop decreases-loop
 loop-again c =
@@ -40,7 +40,7 @@ returns c =
     let l = v.0 in
     let z = c.loop-i-test.false in
     let e : c.before.loop-i.i ≡ a.n = omega arith in
-    gathered a.rows.now a.n a.names-1.now a.types-1.now c.before.loop-i.names-1 c.before.loop-i.types-1 c.before.loop-i.m c.before.loop-i.i e v.2 v.3 v.4
+    gathered a.rows.now a.n a.names.now a.types.now c.before.loop-i.names c.before.loop-i.types c.before.loop-i.m c.before.loop-i.i e v.2 v.3 v.4
 
 pub gather_spec : {M : Type 1} → statement M
 gather_spec = tie.close (tie.spec invariant-loop decreases-loop loop-holds (λ c κs. search rules) (λ c. search rules) (λ c. search rules) loop-again same_length same-length-2 returns)
