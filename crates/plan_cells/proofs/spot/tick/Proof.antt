@@ -16,7 +16,7 @@ returns-2 : tie.Need-returns-then-x-lt-ROWS
 returns-2 c = λ l. let a = c.before.before.args in sym (ap (λ (b : Bool). a.x + one_if b) (not-false a.counts c.before.if-not-counts.false-raw))
 
 returns-3 : tie.Need-returns
-returns-3 c = λ l. absurd (let z = c.if-x-lt-ROWS.false-raw in omega arith)
+returns-3 c = λ l. absurd (let z = c.if-x-lt-ROWS.false in omega arith)
 
 pub tick_spec : {M : Type 1} → statement M
 tick_spec = tie.close (tie.spec returns (λ c. search rules) returns-2 returns-3)
