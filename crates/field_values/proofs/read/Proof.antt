@@ -9,7 +9,7 @@ returns : tie.Need-returns-then-is_text
 returns c = read_as c.before.before.before.before.before.before.before.before.before.before.before.before.before.before.args.declared c.before.before.before.before.before.before.before.before.before.before.before.before.before.before.args.field.now true c.before.before.before.before.before.before.before.before.before.before.is_text.ensures c.before.before.before.before.before.before.before.before.before.if-is_text.true c.before.before.before.before.before.text.ensures
 
 returns-2 : tie.Need-returns
-returns-2 c = read_as c.before.before.before.before.before.before.before.before.before.before.before.before.before.before.args.declared c.before.before.before.before.before.before.before.before.before.before.before.before.before.before.args.field.now false c.before.before.before.before.before.before.before.before.before.before.is_text.ensures c.before.before.before.before.before.before.before.before.before.if-is_text.false c.before.before.before.before.before.type-inv.ensures
+returns-2 c = read_as c.before.before.before.before.before.before.before.before.before.before.before.before.before.before.args.declared c.before.before.before.before.before.before.before.before.before.before.before.before.before.before.args.field.now false c.before.before.before.before.before.before.before.before.before.before.is_text.ensures c.before.before.before.before.before.before.before.before.before.if-is_text.false c.before.before.before.before.before.type_inv.ensures
 
 pub read_spec : {M : Type 1} → statement M
 read_spec =

@@ -1,4 +1,5 @@
 -- `real`: no digits, too many, or so many thousandths.
+use mir.Syntax.{w64}
 use mathlib.Core.Path.{◌≡◌, refl, ap, ◌∙◌}
 use Prim.Native.Nat.{ℕ, ◌+◌, ◌*◌, ◌-◌, ◌≤◌}
 use native.Mathlib.Omega.{arith}
@@ -45,7 +46,7 @@ returns-3 c =
       λ n i k.
           rw (← c.before.before.before.before.before.before.after-from.ensures.1, ← d.3, lt-leb p from c.before.before.before.before.if-p-from.false, le-ltb 3 (p - from) c.before.before.before.if-count-gt-DECIMALS.false)
           (as_found (paper.real (signed_of a.minus (n * 1000 + thousandths_of (decimal 0 (drop from a.s.now)) (p - from)))) i c.found.ensures
-          (to_z-of_z (sfits_of c.before.signed.type-inv) ∙ c.before.signed.ensures ∙ ap (λ (m : ℕ). signed_of a.minus (a.whole * 1000 + m)) (c.before.before.thousandths.ensures.1 ∙ ap (λ (v : ℕ). thousandths_of v (p - from)) value)
+          (to_z-of_z {w = w64} (sfits_of c.before.signed.type_inv) ∙ c.before.signed.ensures ∙ ap (λ (m : ℕ). signed_of a.minus (a.whole * 1000 + m)) (c.before.before.thousandths.ensures.1 ∙ ap (λ (v : ℕ). thousandths_of v (p - from)) value)
           ∙ ap (λ (w : ℕ). signed_of a.minus (w * 1000 + thousandths_of (decimal 0 (drop from a.s.now)) (p - from))) k
           ∙ real_kept a.minus n (thousandths_of (decimal 0 (drop from a.s.now)) (p - from))) refl),
     )

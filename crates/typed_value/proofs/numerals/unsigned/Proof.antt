@@ -1,4 +1,5 @@
 -- `unsigned`: no digits, a real, or an integer.
+use mir.Syntax.{w64}
 use mathlib.Core.Path.{refl, ap, ◌∙◌}
 use Prim.Native.Nat.{ℕ}
 use lib.ListN.{drop}
@@ -39,7 +40,7 @@ returns-3 c =
       search rules,
       λ i. rw (← d.3, lt-leb c.before.before.before.before.before.digits-d.result.place a.at c.before.before.before.before.if-p-at.false, ← c.before.before.before.byte.ensures, ne_eqb c.before.before.before.byte.result 46 c.before.before.if-byte-eq46.false)
           (as_found (paper.integer (signed_of a.minus (decimal 0 (drop a.at a.s.now)))) i c.found.ensures
-          (to_z-of_z (sfits_of c.before.signed.type-inv) ∙ c.before.signed.ensures ∙ ap (λ (v : ℕ). signed_of a.minus v) d.2 ∙ integer_kept a.minus (decimal 0 (drop a.at a.s.now))) refl),
+          (to_z-of_z {w = w64} (sfits_of c.before.signed.type_inv) ∙ c.before.signed.ensures ∙ ap (λ (v : ℕ). signed_of a.minus v) d.2 ∙ integer_kept a.minus (decimal 0 (drop a.at a.s.now))) refl),
     )
 
 pub unsigned_spec : {M : Type 1} → statement M

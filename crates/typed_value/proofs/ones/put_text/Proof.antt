@@ -1,4 +1,5 @@
 -- `put_text`: its tag, its shape, its handle and its bytes.
+use mir.Syntax.{w64}
 use mathlib.Core.Path.{sym, ap, ◌∙◌}
 use Prim.Native.Nat.{ℕ, ◌+◌, ◌*◌}
 use lib.IntN.{ℤ, pos}
@@ -18,7 +19,7 @@ returns c =
     let a = c.before.before.before.before.before.before.before.before.before.before.before.before.before.before.args in (
       c.before.before.before.before.before.before.before.before.before.put_tag.ensures,
       c.before.put_number.ensures
-          ∙ ap (λ (z : ℤ). set a.numbers.now 1 z) (to_z-of_z (sfits_of c.before.before.before.before.copy.type-inv) ∙ c.before.before.before.before.copy.ensures.0 ∙ ap (λ (m : ℕ). pos (64 * 0 * 64 + m)) (sym (cells_long a.s.now 0 (kept_of_fn (length a.s.now))))),
+          ∙ ap (λ (z : ℤ). set a.numbers.now 1 z) (to_z-of_z {w = w64} (sfits_of c.before.before.before.before.copy.type_inv) ∙ c.before.before.before.before.copy.ensures.0 ∙ ap (λ (m : ℕ). pos (64 * 0 * 64 + m)) (sym (cells_long a.s.now 0 (kept_of_fn (length a.s.now))))),
       c.before.before.before.before.copy.ensures.1,
     )
 

@@ -1,4 +1,5 @@
 -- `inside`: never closed, or a text.
+use mir.Syntax.{w64}
 use mir.Facts.{to_z-of_z}
 use borrow.Author.Rules.{sfits_of}
 use mathlib.Core.Path.{refl, sym, ap, ◌∙◌}
@@ -33,7 +34,7 @@ returns-2 c =
     let n = c.before.before.before.before.before.before.before.before.close-p.result - a.from in (
       search rules,
       rw (← c.before.before.before.before.before.before.before.before.close-p.ensures.1, ← c.before.before.before.before.before.before.before.byte.ensures, eq-eqb c.before.before.before.before.before.before.before.byte.result 34 c.before.before.before.before.before.before.if-byte-ne-QUOTE.false)
-          (as_found (paper.text (cells a.s.now a.from (kept_of_fn n))) a.i c.found.ensures (to_z-of_z (sfits_of c.before.before.before.before.copy.type-inv) ∙ c.before.before.before.before.copy.ensures.0 ∙ ap (λ (m : ℕ). pos (64 * a.i * 64 + m)) (sym (cells_long a.s.now a.from (kept_of_fn n)))) c.before.after.ensures.1),
+          (as_found (paper.text (cells a.s.now a.from (kept_of_fn n))) a.i c.found.ensures (to_z-of_z {w = w64} (sfits_of c.before.before.before.before.copy.type_inv) ∙ c.before.before.before.before.copy.ensures.0 ∙ ap (λ (m : ℕ). pos (64 * a.i * 64 + m)) (sym (cells_long a.s.now a.from (kept_of_fn n)))) c.before.after.ensures.1),
       rw (← c.before.before.before.before.before.before.before.before.close-p.ensures.1, ← c.before.before.before.before.before.before.before.byte.ensures, eq-eqb c.before.before.before.before.before.before.before.byte.result 34 c.before.before.before.before.before.before.if-byte-ne-QUOTE.false) c.before.before.before.before.copy.ensures.1,
     )
 
