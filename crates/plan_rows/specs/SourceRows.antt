@@ -52,6 +52,14 @@ of_sources t {k} {u} h =
   where
     only : (a : Attribute) {m : ℕ} → At (source_in a) m u → (a ≡ Structure.source u.named u.attributes) × (m ≡ 0)
     only (Structure.source n xs) at_first = (refl, refl)
+    only (Structure.generic _) {m = m} x'' = elim x'' [ ]
+    only (Structure.precondition _) {m = m} x3 = elim x3 [ ]
+    only (Structure.wait_condition _) {m = m} x4 = elim x4 [ ]
+    only (Structure.terminate _) {m = m} x5 = elim x5 [ ]
+    only (Structure.postcondition _) {m = m} x6 = elim x6 [ ]
+    only (Structure.trigger _) {m = m} x7 = elim x7 [ ]
+    only (Structure.component _ _) {m = m} x9 = elim x9 [ ]
+    only (Structure.source n xs) (at_later {i = i} x15) = elim x15 [ ]
 
 -- ---- the assignments of an attribute
 
@@ -82,6 +90,13 @@ of_assignments t {k} {x} h =
   where
     only : (a : Attribute) {m : ℕ} → At (assigned_in a) m x → (xs : List Assignment) × (a ≡ Structure.postcondition xs) × At xs m x
     only (Structure.postcondition xs) k = (xs, refl, k)
+    only (Structure.generic _) {m = m} k = elim k [ ]
+    only (Structure.precondition _) {m = m} k = elim k [ ]
+    only (Structure.wait_condition _) {m = m} k = elim k [ ]
+    only (Structure.terminate _) {m = m} k = elim k [ ]
+    only (Structure.trigger _) {m = m} k = elim k [ ]
+    only (Structure.component _ _) {m = m} k = elim k [ ]
+    only (Structure.source _ _) {m = m} k = elim k [ ]
 
 -- how many stand before in the rows of one attribute
 no_source_before : {n : Name} {xs : List (Placed SourceAttribute)} (b : Placed Attribute) (i : ℕ) → b.what ≡ Structure.source n xs → tally_to (by_kind is_source) (own_rows b) (suc i) ≡ 1
