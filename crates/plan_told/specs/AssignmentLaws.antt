@@ -39,6 +39,13 @@ given a = assigned_in a.what
 
 only_postcondition : (a : Attribute) {m : ℕ} {y : Structure.Assignment} → At (assigned_in a) m y → (xs : List Structure.Assignment) × (a ≡ Structure.postcondition xs)
 only_postcondition (Structure.postcondition xs) h = (xs, refl)
+only_postcondition (Structure.generic _) {m = m} {y = y} h = elim h [ ]
+only_postcondition (Structure.precondition _) {m = m} {y = y} h = elim h [ ]
+only_postcondition (Structure.wait_condition _) {m = m} {y = y} h = elim h [ ]
+only_postcondition (Structure.terminate _) {m = m} {y = y} h = elim h [ ]
+only_postcondition (Structure.trigger _) {m = m} {y = y} h = elim h [ ]
+only_postcondition (Structure.component _ _) {m = m} {y = y} h = elim h [ ]
+only_postcondition (Structure.source _ _) {m = m} {y = y} h = elim h [ ]
 
 none_given : (l : List (Placed Attribute)) → ((i w : ℕ) (xs : List Structure.Assignment) → ¬ At l i (record { word = w; what = Structure.postcondition xs })) → each given l ≡ []
 none_given [] n = refl

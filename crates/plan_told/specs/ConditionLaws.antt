@@ -46,20 +46,29 @@ record Kind (g : List TopLevel) (kind : Outermost → Attribute) (p : Property) 
   pub role : (T : ℕ) (x : Outermost) → At (of_attribute T (kind x)) 0 (record { expression = x; role = condition; attached = T })
   pub fixed : {c : Component} → ¬ Moving c p
 
+precondition_fixed : {c : Component} → ¬ Moving c Table.precondition
+precondition_fixed h = elim h [ ]
+
 precondition_kind : (g : List TopLevel) → Kind g Structure.precondition Table.precondition
-precondition_kind g = record { put = λ h. attribute_5_precondition h; by = by; role = λ T x. at_first; fixed = λ h. elim h [ ] }
+precondition_kind g = record { put = λ h. attribute_5_precondition h; by = by; role = λ T x. at_first; fixed = precondition_fixed }
   where
     by : {T : ℕ} {r : RowValue} → Adds g (task № T) Table.precondition r → (x : Outermost) × SetTaskAttribute g T (Structure.precondition x) × (r ≡ expression_is x.tree)
     by (attribute_5_precondition {e} h) = (e, h, refl)
 
+wait_fixed : {c : Component} → ¬ Moving c Table.wait_condition
+wait_fixed h = elim h [ ]
+
 wait_kind : (g : List TopLevel) → Kind g Structure.wait_condition Table.wait_condition
-wait_kind g = record { put = λ h. attribute_5_wait_condition h; by = by; role = λ T x. at_first; fixed = λ h. elim h [ ] }
+wait_kind g = record { put = λ h. attribute_5_wait_condition h; by = by; role = λ T x. at_first; fixed = wait_fixed }
   where
     by : {T : ℕ} {r : RowValue} → Adds g (task № T) Table.wait_condition r → (x : Outermost) × SetTaskAttribute g T (Structure.wait_condition x) × (r ≡ expression_is x.tree)
     by (attribute_5_wait_condition {e} h) = (e, h, refl)
 
+terminate_fixed : {c : Component} → ¬ Moving c Table.terminate_condition
+terminate_fixed h = elim h [ ]
+
 terminate_kind : (g : List TopLevel) → Kind g Structure.terminate Table.terminate_condition
-terminate_kind g = record { put = λ h. attribute_5_terminate h; by = by; role = λ T x. at_first; fixed = λ h. elim h [ ] }
+terminate_kind g = record { put = λ h. attribute_5_terminate h; by = by; role = λ T x. at_first; fixed = terminate_fixed }
   where
     by : {T : ℕ} {r : RowValue} → Adds g (task № T) Table.terminate_condition r → (x : Outermost) × SetTaskAttribute g T (Structure.terminate x) × (r ≡ expression_is x.tree)
     by (attribute_5_terminate {e} h) = (e, h, refl)
