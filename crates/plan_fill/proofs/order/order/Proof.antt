@@ -16,24 +16,24 @@ abbrev decreases-loop : tie.decreases-loop-k
 decreases-loop f₀ m marks₀ k₀ f marks k = 32 - k
 
 loop-holds : tie.Need-loop-k-init invariant-loop decreases-loop
-loop-holds c = let a = c.before.args in (omega arith, refl, order_none a.m a.f.now)
+loop-holds c = let a = c.args in (omega arith, refl, order_none a.m a.f.now)
 
 loop-again : tie.Need-loop-k-preserved invariant-loop decreases-loop
 loop-again c =
-    let a = c.before.before.before.before.before.before.before.before.before.before.before.before.before.before.args in
-    let v = c.before.before.before.before.before.before.before.before.before.before.before.before.loop-k.invariant in
-    (omega arith, search rules, order_more a.m c.before.before.before.before.before.before.before.before.before.before.before.before.loop-k.k a.f.now c.before.before.before.before.before.before.before.before.before.before.before.before.loop-k.f _ c.before.before.before.before.before.before.before.before.before.before.before.before.loop-k.marks _ c.before.before.before.before.before.before.before.before.before.before.before.before.before.before.requires v.2 c.before.before.before.before.before.before.before.before.next-t.ensures c.before.before.before.before.before.before.mark.ensures c.before.before.before.placed.ensures c.before.before.put.ensures)
+    let a = c.args in
+    let v = c.loop-k.invariant in
+    (omega arith, search rules, order_more a.m c.loop-k.k a.f.now c.loop-k.f _ c.loop-k.marks _ c.requires v.2 c.next-t.ensures c.mark.ensures c.placed.ensures c.put.ensures)
 
 same_length : tie.Need-shape_of-f invariant-loop decreases-loop
-same_length c = c.before.loop-k.invariant.1
+same_length c = c.loop-k.invariant.1
 
 returns : tie.Need-returns invariant-loop decreases-loop
 returns c = λ q h.
-    let a = c.before.before.before.args in
-    let v = c.before.loop-k.invariant in
+    let a = c.args in
+    let v = c.loop-k.invariant in
     let l = v.0 in
     let z = c.loop-k-test.false in
-    held_order (q parent) a.m q c.before.loop-k.k (omega arith) (v.2.1 q h).0
+    held_order (q parent) a.m q c.loop-k.k (omega arith) (v.2.1 q h).0
 
 pub order_spec : {M : Type 1} → statement M
 order_spec = tie.close (tie.spec invariant-loop decreases-loop loop-holds (λ c. search rules) (λ c κs. search rules) (λ c. search rules) (λ c κs. search rules) (λ c κs. search rules) (λ c κs. search rules) (λ c. search rules) (λ c. search rules) loop-again same_length returns)
