@@ -9,7 +9,8 @@ use Rattle.paper_engine.specs.Cycle.{ends, quiet}
 use Rattle.paper_calls.specs.Calls as Calls
 use Calls.{State, empty, done, ran, row, shows_value, refuses, Call, load, run, set_engine_time, confirm_task, add_data_value, read_row, Calls}
 use Rattle.paper_calls.proofs.Laws.CallLaws.{one_call}
-use Rattle.paper_worked.specs.Fluke.{fluke_text, depths, Fluke, worked_fluke}
+use Rattle.paper_worked.specs.Fluke.{fluke_text, depths, Fluke}
+use Rattle.paper_worked.proofs.FlukeLaws.{worked_fluke}
 use Rattle.load.specs.declared.Reply.{Reply}
 use Rattle.load.specs.declared.Reply.TheVariants as Load
 use Rattle.load.specs.Loads.{Lent, short_f, Replied}

@@ -1,20 +1,12 @@
 -- A text that loads as a guideline, computed from its bytes: its tokens, its structure, that no stage of load is broken, and the structure without places and parentheses.
-use Rattle.std.specs.Prelude.{ℕ, ◌≡◌, refl, true, false, List}
-use Rattle.std.proofs.Common.{subst}
+use Rattle.std.specs.Prelude.{ℕ, ◌≡◌, true, false, List}
 use Rattle.std.proofs.Math.Option.{Option, none, some}
-use Rattle.paper_expressions.proofs.Laws.Search.{of_no, no_clash}
-use Rattle.paper_expressions.proofs.Laws.Tests.{contra}
-use Rattle.paper_tokens.specs.Lexical.{Token, Tokens}
+use Rattle.paper_tokens.specs.Lexical.{Token}
 use Rattle.paper_guideline.specs.Structure.{TopLevel, Structure}
 use Rattle.paper_guideline.specs.Refusals.{Read, Answer, loads, refused, Answers}
-use Rattle.paper_guideline.proofs.Laws.AnswerLaws.{answer_f, structured_answer}
-use Rattle.paper_rows.specs.Load.{Initial}
+use Rattle.paper_guideline.proofs.Laws.AnswerLaws.{answer_f}
 use Rattle.paper_rows.specs.Bare.{bare_guideline}
-use Rattle.paper_rows.proofs.Laws.RowLists.{look_f}
-use Rattle.paper_rows.proofs.Laws.Lawful.{Lawful}
-use Rattle.paper_rows.proofs.Laws.InitialLaws.{load_f, initial}
-use Rattle.paper_calls.specs.Calls.{State, loaded, done, load, Calls, load_done}
-use Rattle.paper_worked.specs.Lexer.{tokens_f, tokens_are}
+use Rattle.paper_worked.specs.Lexer.{tokens_f}
 use Rattle.paper_worked.specs.Reader.{structure_f}
 
 -- the text has this structure, and no stage of load is broken; h is the structure as it is kept
@@ -24,51 +16,22 @@ pub record Loads (text : List ℕ) (h : List TopLevel) : Type 0 where
   pub answer : Answers (false ≡ true) text loads
   pub kept : bare_guideline structure ≡ h
 
-abbrev if_loads : Answer → List TopLevel → Option (List TopLevel)
+abbrev pub if_loads : Answer → List TopLevel → Option (List TopLevel)
 if_loads loads g = some (bare_guideline g)
 if_loads (refused n p) g = none
 
-abbrev from_structure : List ℕ → List Token → Option (List TopLevel) → Option (List TopLevel)
+abbrev pub from_structure : List ℕ → List Token → Option (List TopLevel) → Option (List TopLevel)
 from_structure text ts none = none
 from_structure text ts (some g) = if_loads (answer_f false text ts g) g
 
 -- the structure alone
-abbrev read_only : {w : List Token} → Option ((g : List TopLevel) × Structure w g) → Option (List TopLevel)
+abbrev pub read_only : {w : List Token} → Option ((g : List TopLevel) × Structure w g) → Option (List TopLevel)
 read_only none = none
 read_only (some x) = some x.0
 
-abbrev from_tokens : List ℕ → Option (List Token) → Option (List TopLevel)
+abbrev pub from_tokens : List ℕ → Option (List Token) → Option (List TopLevel)
 from_tokens text none = none
 from_tokens text (some ts) = from_structure text ts (read_only (structure_f ts))
 
 abbrev pub loaded_f : List ℕ → Option (List TopLevel)
 loaded_f text = from_tokens text (tokens_f text)
-
-module _ {text : List ℕ} {h : List TopLevel} where
-  answered : {ts : List Token} {g : List TopLevel} (a : Answer) → Tokens text 0 ts → Structure ts g → answer_f false text ts g ≡ a → if_loads a g ≡ some h → Loads text h
-  answered {ts} {g} loads t s e f = record {
-    structure = g;
-    read = record { tokens = ts; its = t; structure = s };
-    answer = subst (Answers (false ≡ true) text) e (structured_answer (of_no (λ x. contra x)) t s);
-    kept = let z : bare_guideline g ≡ h = cc in z;
-  }
-  answered (refused n p) t s e f = absurd (no_clash (cc))
-
-  read : {ts : List Token} (o : Option ((g : List TopLevel) × Structure ts g)) → Tokens text 0 ts → from_structure text ts (read_only o) ≡ some h → Loads text h
-  read none t f = absurd (no_clash (cc))
-  read {ts} (some x) t f = answered (answer_f false text ts x.0) t x.1 refl f
-
-  lexed : (o : Option (List Token)) → tokens_f text ≡ o → from_tokens text o ≡ some h → Loads text h
-  lexed none e f = absurd (no_clash (cc))
-  lexed (some ts) e f = read (structure_f ts) (tokens_are e) f
-
-  -- what is computed, is so
-  pub loads_if : loaded_f text ≡ some h → Loads text h
-  loads_if f = lexed (tokens_f text) refl f
-
--- the call of load with such a text, in any state
-pub load_of : {text : List ℕ} {h : List TopLevel} → Loads text h → Lawful h → (s : State)
-    → Calls (load text false) s done (loaded (record { structure = h; table = look_f (load_f h); flag = false; time = 0 }))
-load_of {text} {h} l k s =
-    subst (λ (x : List TopLevel). Initial x (look_f (load_f h)) → Calls (load text false) s done (loaded (record { structure = x; table = look_f (load_f h); flag = false; time = 0 })))
-    l.kept (λ i. load_done l.answer l.read i) (initial k)

@@ -1,0 +1,5 @@
+pub mod LexerLaws
+pub mod LoadingLaws
+pub mod TextsLaws
+pub mod FromTextsLaws
+pub mod FlukeLaws
