@@ -75,7 +75,11 @@ module _ {g : List TopLevel} {x b f : List ℕ} {w : List (List Bool)} {s : List
   value_row (asked_at l (asked_1 v k)) = absurd (elim k [ ])
   value_row (asked_at l (asked_2 v k)) = absurd (no_start_value k)
   value_row (asked_at l (asked_3 v k)) = absurd (elim k [ ])
-  value_row (asked_at {T} l (asked_4 v (symbol_3 i m))) = (T, i, l, v, m, refl, refl)
+  value_row {d} {a} (asked_at {T} l (asked_4 v k)) = go T d a l v k
+    where
+      go : (T d a : ℕ) → T < tasks_in f → Review t time T §8·5·1-4 → CompleteS f time T (data_item № d) value (time_is a)
+          → (T : ℕ) × (i : ℕ) × (T < tasks_in f) × Review t time T §8·5·1-4 × (i < assigns_at f T) × (a ≡ assign_at f T + i) × (target_at f a ≡ d)
+      go T d a l v (symbol_3 i m) = (T, i, l, v, m, refl, refl)
 
   -- of the item that the target names
   target_is : {T a d : ℕ} {y : Assigns} {v : View} → Assignment (Parts.table x b) f t T a y → ViewOf t v → ResolveTarget v y.target d → target_at f a ≡ d
