@@ -6,12 +6,12 @@ use Rattle.triggering.proofs.step.Tie as tie
 
 returns : tie.Need-returns-then-hit
 returns c =
-    let a = c.before.before.before.before.before.before.before.before.before.before.before.args in
+    let a = c.before.before.before.before.before.before.before.before.before.before.args in
     step_hit a.f.now a.b.now a.s.now a.name.now a.t c.before.before.before.before.before.hit.ensures c.before.before.before.before.if-hit.true c.before.before.make_true.ensures
 
 returns-2 : tie.Need-returns-else-hit
 returns-2 c =
-    let a = c.before.before.before.before.before.before.before.args in
+    let a = c.before.before.before.before.before.before.args in
     step_miss a.f.now a.b.now a.s.now a.name.now a.t c.before.hit.ensures c.if-hit.false
 
 pub step_spec : {M : Type 1} → statement M

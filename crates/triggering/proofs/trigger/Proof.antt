@@ -16,12 +16,12 @@ decreases-loop b f s₀ name t₀ s t = 32 - t
 
 loop-holds : tie.Need-loop-t-init invariant-loop decreases-loop
 loop-holds c =
-    let a = c.before.before.before.before.before.before.before.before.before.args in
+    let a = c.before.before.before.before.before.before.before.before.args in
     (omega arith, sent_none a.plan.now a.texts.now a.name.now a.state.now)
 
 loop-again : tie.Need-loop-t-preserved invariant-loop decreases-loop
 loop-again c =
-    let a = c.before.before.before.before.before.before.before.before.before.before.before.before.before.before.before.args in
+    let a = c.before.before.before.before.before.before.before.before.before.before.before.before.before.before.args in
     (omega arith, sent_more a.plan.now a.texts.now a.name.now a.state.now c.before.before.before.before.before.loop-t.t c.before.before.before.before.before.loop-t.state c.before.before.step.new.s (omega arith) c.before.before.step.ensures c.before.before.before.before.before.loop-t.invariant.1)
 
 same_length : tie.Need-shape_of-state-then-small_text invariant-loop decreases-loop
@@ -29,17 +29,17 @@ same_length c = c.before.loop-t.invariant.1.size
 
 returns : tie.Need-returns-then-small_text invariant-loop decreases-loop
 returns c =
-    let a = c.before.before.before.before.before.before.before.before.before.before.before.args in
+    let a = c.before.before.before.before.before.before.before.before.before.before.args in
     trigger_sent a.name.now a.texts.now a.plan.now a.state.now c.before.before.before.before.before.ready.ensures c.before.before.before.before.if-ready.true c.before.before.before.small_text.ensures c.before.before.if-small_text.true (sent_all a.plan.now a.texts.now a.name.now a.state.now c.before.loop-t.t (omega arith) c.before.loop-t.invariant.1)
 
 returns-2 : tie.Need-returns-then-ready invariant-loop decreases-loop
 returns-2 c =
-    let a = c.before.before.before.before.before.before.before.before.before.args in
+    let a = c.before.before.before.before.before.before.before.before.args in
     trigger_large a.name.now a.texts.now a.plan.now a.state.now c.before.before.before.ready.ensures c.before.before.if-ready.true c.before.small_text.ensures c.if-small_text.false
 
 returns-3 : tie.Need-returns invariant-loop decreases-loop
 returns-3 c =
-    let a = c.before.before.before.before.before.before.before.args in
+    let a = c.before.before.before.before.before.before.args in
     trigger_unready a.name.now a.texts.now a.plan.now a.state.now c.before.ready.ensures c.if-ready.false
 
 pub trigger_spec : {M : Type 1} → statement M
