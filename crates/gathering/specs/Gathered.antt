@@ -8,7 +8,7 @@ use Rattle.paper_expressions.proofs.Laws.WithinLimits.{Limited}
 use Rattle.paper_guideline.specs.Structure.{TopLevel}
 use Rattle.paper_guideline.specs.Limits.{depth_limit}
 use Rattle.paper_rows.specs.Table.{data_item, Component, ◌№◌, Property, value, RowValue, time_is, Table}
-use Rattle.paper_engine.specs.Operations.{Start, start_9}
+use Rattle.paper_engine.specs.Operations.{Initialise, Start, start_9, Discard}
 use Rattle.parts.specs.Part as Parts
 use Rattle.values.specs.declared.value.Value.{Value}
 use Rattle.values.specs.Meaning.{meaning_v}
@@ -77,11 +77,20 @@ column_value value-at = refl
 no_start_value : {t : Table} {now T : ℕ} {c : Component} {r : RowValue} → ¬ Start t now T c value r
 no_start_value (start_9 a b i h) = elim h [ ]
 
+no_initialise_value : {t : Table} {now T : ℕ} {c : Component} {r : RowValue} → ¬ Initialise t now T c value r
+no_initialise_value h = elim h [ ]
+
+no_discard_value : {t : Table} {now T : ℕ} {c : Component} {r : RowValue} → ¬ Discard t now T c value r
+no_discard_value h = elim h [ ]
+
+complete_number : {f : List ℕ} {now T : ℕ} {c : Component} {r : RowValue} → CompleteS f now T c value r → (d : ℕ) × (a : ℕ) × (c ≡ data_item № d) × (r ≡ time_is a)
+complete_number (symbol_3 i m) = (_, _, refl, refl)
+
 pub a_number : {f : List ℕ} {t : Table} {now n : ℕ} {c : Component} {r : RowValue} → ChangesS f t now n c value r → (d : ℕ) × (a : ℕ) × (c ≡ data_item № d) × (r ≡ time_is a)
-a_number (asked_at l (asked_1 v k)) = absurd (elim k [ ])
+a_number (asked_at l (asked_1 v k)) = absurd (no_initialise_value k)
 a_number (asked_at l (asked_2 v k)) = absurd (no_start_value k)
-a_number (asked_at l (asked_3 v k)) = absurd (elim k [ ])
-a_number (asked_at l (asked_4 v (symbol_3 i m))) = (_, _, refl, refl)
+a_number (asked_at l (asked_3 v k)) = absurd (no_discard_value k)
+a_number (asked_at l (asked_4 v k)) = complete_number k
 
 -- a row says one item and one number only
 pub said_item : {o : List ℕ} {i d e : ℕ} {p q : Property} {r u : RowValue} → Says o i (data_item № d) p r → Says o i (data_item № e) q u → d ≡ e
