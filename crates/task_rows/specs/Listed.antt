@@ -30,6 +30,7 @@ all_ranked = refl
 ranked_at : (n : ℕ) {l : List Property} {i : ℕ} {q : Property} → rankedb n l ≡ true → At l i q → property_rank q ≡ n + i
 ranked_at n {l = x ∷ l} e at_first = eqb-true (property_rank x) n ((is_and {a = eqb (property_rank x) n} {b = rankedb (suc n) l} (λ z. z, λ z. z) (λ z. z, λ z. z)).0 e).0 ∙ (let z : n ≡ n + 0 = omega arith in z)
 ranked_at n {l = x ∷ l} {i = suc i} e (at_later h) = ranked_at (suc n) ((is_and {a = eqb (property_rank x) n} {b = rankedb (suc n) l} (λ z. z, λ z. z) (λ z. z, λ z. z)).0 e).1 h ∙ (let z : suc n + i ≡ n + suc i = omega arith in z)
+ranked_at n {l = []} {i = y} e x7 = elim x7 [ ]
 
 pub place_of : {p : ℕ} {q : Property} → At properties p q → property_rank q ≡ p
 place_of {p} h = ranked_at 0 all_ranked h ∙ (let z : 0 + p ≡ p = omega arith in z)

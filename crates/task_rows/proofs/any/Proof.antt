@@ -21,11 +21,11 @@ loop-holds c = (omega arith, any_none _)
 
 loop-again : tie.Need-loop-k-preserved invariant-loop decreases-loop
 loop-again c =
-    let row = c.before.before.before.args.t1 in
+    let row = c.before.before.before.args.row in
     (omega arith, c.either-found.ensures ∙ ap (λ (y : Bool). y || marked row c.before.before.loop-k.k) c.before.before.loop-k.invariant.1 ∙ sym (any_more (marked row) c.before.before.loop-k.k))
 
 returns : tie.Need-returns invariant-loop decreases-loop
-returns c = any_all (marked c.before.before.args.t1) c.before.loop-k.k (omega arith) c.before.loop-k.invariant.1
+returns c = any_all (marked c.before.before.args.row) c.before.loop-k.k (omega arith) c.before.loop-k.invariant.1
 
 pub any_spec : {M : Type 1} → statement M
 any_spec =
