@@ -26,6 +26,7 @@ part_most s a n = simp (length-take, length-drop) (omega arith)
 numbered_at : (m : ℕ) {i : ℕ} {l : List Source} {s : Source} → At l i s → At (numbered m l) i (source № (m + i))
 numbered_at m {l = v ∷ l} at_first = let e : m ≡ m + 0 = omega arith in subst (λ (y : ℕ). At (numbered m (v ∷ l)) 0 (source № y)) e at_first
 numbered_at m {i = suc i} {l = v ∷ l} (at_later h) = let e : suc m + i ≡ m + suc i = omega arith in at_later (subst (λ (y : ℕ). At (numbered (suc m) l) i (source № y)) e (numbered_at (suc m) h))
+numbered_at m {i = y} {l = []} x'' = elim x'' [ ]
 
 same_source : {n m : ℕ} → source № n ≡ source № m → n ≡ m
 same_source e = cc
@@ -38,6 +39,7 @@ module _ {g : List TopLevel} {x b f : List ℕ} {w : List (List Bool)} {s : List
   listed : {c i : ℕ} {k : Task} {u : Source} (all : List Source) → InstantiateTask g k c → sources_of k ≡ all → At all i u
       → (z : List Component) × Contains t (task № c) sources (components_are z) × At z i (source № (Load.sources_before c (Structure.tasks g) + i))
   listed {c} (v ∷ rest) q e a = (numbered (Load.sources_before c (Structure.tasks g)) (v ∷ rest), has (kept h) fixed_sources (Load.source_5 q e), numbered_at (Load.sources_before c (Structure.tasks g)) a)
+  listed {c = c} {i = i} {k = k} {u = u} [] q e a = elim a [ ]
 
   its_item : {c i : ℕ} {k : Task} {u : Source} → InstantiateTask g k c → At (sources_of k) i u → n ≡ Load.sources_before c (Structure.tasks g) + i
       → Contains t (source № n) data_item_of (component_is (data_item № item_at f n))

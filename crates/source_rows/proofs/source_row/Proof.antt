@@ -8,27 +8,27 @@ use Rattle.source_rows.proofs.source_row.Tie as tie
 returns : tie.Need-returns-in-0
 returns c =
     let a = c.before.before.before.args in
-    arm a.f.now a.n c.plain.result a.p class c.before.in-0.keys1 (of_class a.f.now a.n c.plain.result c.plain.ensures)
+    arm a.f.now a.n c.plain.result a.p class c.before.in-0.is (of_class a.f.now a.n c.plain.result c.plain.ensures)
 
 returns-2 : tie.Need-returns-in-1
 returns-2 c =
     let a = c.before.before.before.before.before.args in
-    arm a.f.now a.n c.name.result a.p name c.before.before.before.in-1.keys2 (of_name a.f.now a.n c.name.result c.before.before.number-d.ensures c.before.cell.ensures c.name.ensures)
+    arm a.f.now a.n c.name.result a.p name c.before.before.before.in-1.is (of_name a.f.now a.n c.name.result c.before.before.number-d.ensures c.before.cell.ensures c.name.ensures)
 
 returns-3 : tie.Need-returns-in-56
 returns-3 c =
     let a = c.before.before.before.before.args in
-    arm a.f.now a.n c.plain-in-56.result a.p data_item_of c.before.before.in-56.keys3 (of_item a.f.now a.n c.plain-in-56.result c.before.cell-d.ensures c.plain-in-56.ensures)
+    arm a.f.now a.n c.plain-in-56.result a.p data_item_of c.before.before.in-56.is (of_item a.f.now a.n c.plain-in-56.result c.before.cell-d.ensures c.plain-in-56.ensures)
 
 returns-4 : tie.Need-returns-in-57
 returns-4 c =
     let a = c.before.before.before.before.args in
-    arm a.f.now a.n c.by_answer.result a.p mandatory c.before.before.in-57.keys4 (of_mandatory a.f.now a.n c.by_answer.result c.before.cell-in-57.ensures c.by_answer.ensures)
+    arm a.f.now a.n c.by_answer.result a.p mandatory c.before.before.in-57.is (of_mandatory a.f.now a.n c.by_answer.result c.before.cell-in-57.ensures c.by_answer.ensures)
 
 returns-5 : tie.Need-returns-in_default
 returns-5 c =
     let a = c.before.before.before.args in
-    let n = c.before.in_default.rest in
+    let n = c.before.in_default.in_default-own.rest in
     of_none a.f.now a.n c.plain-in_default.result a.p (not_listed n.0.0.0.1 n.0.0.1 n.0.1 n.1) c.plain-in_default.ensures
 
 pub source_row_spec : {M : Type 1} → statement M
