@@ -8,7 +8,7 @@ use Rattle.cycles.proofs.enact.Tie as tie
 
 returns : tie.Need-returns
 returns c =
-    let a = c.before.before.before.before.before.before.before.before.before.before.before.before.before.before.before.before.before.before.before.before.before.before.before.before.before.before.before.before.before.before.args in
+    let a = c.before.before.before.before.before.before.before.before.before.before.before.before.before.before.before.before.before.before.before.before.before.before.before.before.before.before.before.before.args in
     let v = c.before.before.before.before.before.before.before.before.before.before.before.before.before.before.before.before.enact.new.s in
     let u = c.before.before.before.before.before.before.before.before.before.store.new.s in
     let b' = c.before.before.before.before.before.before.before.before.before.store.new.b in
