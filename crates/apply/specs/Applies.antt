@@ -12,7 +12,7 @@ use Rattle.paper_expressions.specs.Operators.{plus, minus, times, is>, is<, is>=
 use Rattle.paper_expressions.specs.Operators.{Op, is-in}
 use Rattle.paper_expressions.specs.Operators.{F, F-arithmetic, F-divide, F-compare, F-and, F-or, F-includes, F-oneof, F-if, F-negate, F-isknown, F-not, F-count, F-sum, F-extreme, F-nth, F-is-in}
 use Rattle.parts.specs.Codes.{code}
-use Rattle.parts.specs.OneTree.{op_at}
+use Rattle.parts.proofs.OneTree.{op_at}
 use Rattle.values.specs.declared.value.Value.{Value}
 use Rattle.values.specs.Meaning.{meaning_v}
 use Rattle.operators.specs.Means.{Means, meanings}

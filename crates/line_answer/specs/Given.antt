@@ -14,7 +14,7 @@ use Rattle.parts.specs.Part as Part
 use Rattle.parts.specs.Items.{Items}
 use Rattle.resolution.specs.Letters.{Outcome}
 use Rattle.typer.specs.Typed.{Typed}
-use Rattle.typer.specs.TypedLaws.{typed_written}
+use Rattle.typer.proofs.TypedLaws.{typed_written}
 use Rattle.values.specs.declared.value.Value.{Value}
 use Rattle.values.specs.Meaning.{meaning_v}
 use Rattle.apply.specs.Tasks.{Tasks}

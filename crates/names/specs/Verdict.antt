@@ -16,7 +16,7 @@ use Sheet.{Sheet, task_kind, once, Flaw, Bad, flawed, unreached, spot}
 use Rattle.row_names.specs.Shape.{Shaped}
 use Rattle.row_names.specs.Flat.{of_kind, is_data}
 use Rattle.row_names.specs.Agreement.{Agrees, RowOf}
-use Rattle.row_names.specs.NameLaw.{to_row, from_row, row_task, row_item, root_row, task_of, task_not_once}
+use Rattle.row_names.proofs.NameLaw.{to_row, from_row, row_task, row_item, root_row, task_of, task_not_once}
 use Rattle.row_tests.specs.declared.Found as Found
 use Found.{Found}
 use Found.TheVariants as Answer

@@ -2,7 +2,6 @@ pub mod Codes
 pub mod Texts
 pub mod Part
 pub mod Operands
-pub mod OneTree
 pub mod Encode
 pub mod EncodeLaws
 pub mod Items

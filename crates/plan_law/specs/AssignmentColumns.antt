@@ -22,7 +22,7 @@ use Rattle.plan.specs.Writes as Writes
 use Writes.{Outline, plan_f, plan, is_assignment, tasks_before, assignments_before, at_task, item_alike}
 use Rattle.plan.specs.Filled.{Held}
 use Rattle.plan_told.specs.Told.{AssignmentsTold}
-use Rattle.plan_told.specs.ListLaws.{before_less}
+use Rattle.plan_told.proofs.ListLaws.{before_less}
 use Rattle.plan_rows.specs.Counting.{piece_begins}
 use Rattle.plan_rows.specs.Stands.{stands_of}
 use Rattle.plan_rows.specs.Reads.{Reads}

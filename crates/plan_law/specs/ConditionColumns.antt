@@ -19,7 +19,7 @@ use Rattle.plan.specs.Writes as Writes
 use Writes.{Outline, plan_f, plan, tasks_before}
 use Rattle.plan.specs.Filled.{Held}
 use Rattle.plan_told.specs.Told.{ConditionsTold}
-use Rattle.plan_told.specs.RowLaws.{same_expression}
+use Rattle.plan_told.proofs.RowLaws.{same_expression}
 use Rattle.plan_rows.specs.Owned.{first_row}
 use Rattle.plan_rows.specs.Reads.{Reads}
 use Rattle.plan_rows.specs.ReadLaws.{tasks_owned}

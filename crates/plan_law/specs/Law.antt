@@ -18,7 +18,7 @@ use Rattle.planned.specs.Planned.{Plans, own_texts}
 use Rattle.plan.specs.Writes.{outline}
 use Rattle.plan.specs.Filled.{Fit, Filled}
 use Rattle.plan_told.specs.Told.{Bounded}
-use Rattle.plan_told.specs.PlannedLaws.{planned}
+use Rattle.plan_told.proofs.PlannedLaws.{planned}
 use Rattle.plan_rows.specs.ReadLaws.{tasks_in_all, items_in_all}
 use Rattle.plan_law.specs.Encodes.{reads}
 use Rattle.plan_law.specs.Loaded.{unbroken, bounded_loaded, few_loaded, short_loaded}

@@ -20,7 +20,7 @@ use Rattle.plan.specs.Writes as Writes
 use Writes.{Outline, one_if, plan_f, plan, tasks_before, items_before}
 use Rattle.plan.specs.Filled.{Held}
 use Rattle.plan_told.specs.Told.{NamesTold}
-use Rattle.plan_told.specs.RowLaws.{same_text}
+use Rattle.plan_told.proofs.RowLaws.{same_text}
 use Rattle.plan_rows.specs.Stands.{stands_of, ItemStands, item_of}
 use Rattle.plan_rows.specs.Reads.{Reads}
 use Rattle.plan_rows.specs.ReadLaws.{below, head_row_of, tasks_at, is_head, item_row_of, items_at, is_item, item_seen, items_in_all, tasks_owned}

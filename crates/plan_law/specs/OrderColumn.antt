@@ -18,7 +18,7 @@ use Rattle.plan.specs.Writes as Writes
 use Writes.{Outline, placed, next, order_f, plan_f, plan, tasks_before}
 use Rattle.plan.specs.Filled.{Held}
 use Rattle.plan_told.specs.Told.{TasksTold, OrderTold}
-use Rattle.plan_told.specs.RowLaws.{no_root}
+use Rattle.plan_told.proofs.RowLaws.{no_root}
 use Rattle.plan_rows.specs.Reads.{Reads}
 use Rattle.plan_rows.specs.ReadLaws.{first_found, first_there, tasks_in_all}
 use Rattle.plan_law.specs.Written.{marked_by}

@@ -20,8 +20,8 @@ use Rattle.plan.specs.Writes as Writes
 use Writes.{Outline, plan_f, plan, is_source, tasks_before, sources_before, at_task, item_named}
 use Rattle.plan.specs.Filled.{Held}
 use Rattle.plan_told.specs.Told.{answer, SourcesTold}
-use Rattle.plan_told.specs.RowLaws.{same_truth}
-use Rattle.plan_told.specs.ListLaws.{counted}
+use Rattle.plan_told.proofs.RowLaws.{same_truth}
+use Rattle.plan_told.proofs.ListLaws.{counted}
 use Rattle.plan_rows.specs.Stands.{stands_of}
 use Rattle.plan_rows.specs.Reads.{Reads}
 use Rattle.plan_rows.specs.ReadLaws.{below, head_row_of, tasks_at, sources_at, is_head, item_found}

@@ -20,7 +20,7 @@ use Rattle.plan.specs.Writes as Writes
 use Writes.{Outline, one_if, plan_f, plan, tasks_before, task_row, task_named, child}
 use Rattle.plan.specs.Filled.{Held}
 use Rattle.plan_told.specs.Told.{class_code, answer, confirm_code, TasksTold}
-use Rattle.plan_told.specs.RowLaws.{same_truth, component_task}
+use Rattle.plan_told.proofs.RowLaws.{same_truth, component_task}
 use Rattle.plan_rows.specs.Stands.{Stands, stands_of}
 use Rattle.plan_rows.specs.Reads.{Reads}
 use Rattle.plan_rows.specs.ReadLaws.{below, head_row_of, tasks_at, is_head, head_seen, tasks_in_all, tasks_owned}

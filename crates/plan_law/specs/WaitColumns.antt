@@ -20,7 +20,7 @@ use Rattle.plan.specs.Writes as Writes
 use Writes.{Outline, waits_f, waits, task_named, child}
 use Rattle.plan.specs.Filled.{Marked}
 use Rattle.plan_told.specs.Told.{Constrained, WaitsTold}
-use Rattle.plan_told.specs.RowLaws.{component_task}
+use Rattle.plan_told.proofs.RowLaws.{component_task}
 use Rattle.plan_rows.specs.Reads.{Reads}
 use Rattle.plan_rows.specs.ReadLaws.{below}
 use Rattle.plan_rows.specs.Components.{named_task, named_as, in_component_seen, in_component_of}

@@ -1,10 +1,1 @@
 pub mod Told
-pub mod RowLaws
-pub mod ListLaws
-pub mod TaskLaws
-pub mod WaitLaws
-pub mod SourceLaws
-pub mod ConditionLaws
-pub mod NamedLaws
-pub mod AssignmentLaws
-pub mod PlannedLaws

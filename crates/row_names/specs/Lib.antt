@@ -5,5 +5,3 @@ pub mod Shape
 pub mod Flat
 pub mod Agreement
 pub mod Owners
-pub mod NameLaw
-pub mod AttributeLaw

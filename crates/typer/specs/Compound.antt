@@ -13,7 +13,8 @@ use Rattle.parts.specs.Part.{number_of, operands}
 use Rattle.typer.specs.declared.lists.Summary.{Summary}
 use Rattle.resolution.specs.Letters.{Outcome, none, outcome_iff}
 use Rattle.resolution.specs.Resolution.{resolve_of}
-use Rattle.resolution.specs.Allowed.{list_of, applied, unapplied}
+use Rattle.resolution.specs.Allowed.{list_of}
+use Rattle.resolution.proofs.AllowedLaws.{applied, unapplied}
 use Rattle.typer.specs.Lists.{list_typed}
 use Rattle.typer.specs.Summary.{summary, Summed, all_typed, not_all, summary_typed, summary_list, three, summary_slots}
 

@@ -3,6 +3,4 @@ pub mod Summary
 pub mod Compound
 pub mod Leaves
 pub mod Typed
-pub mod TypedLaws
 pub mod Fitting
-pub mod FittingLaws

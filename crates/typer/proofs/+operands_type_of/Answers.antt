@@ -2,7 +2,7 @@
 use Rattle.std.proofs.Common.{ap, arith}
 use Rattle.parts.specs.Part.{table}
 use Rattle.typer.specs.declared.lists.Summary.{Summary}
-use Rattle.typer.specs.TypedLaws.{going_first, going_on, going_stop, going_done, nothing_ends, too_deep, by_operands}
+use Rattle.typer.proofs.TypedLaws.{going_first, going_on, going_stop, going_done, nothing_ends, too_deep, by_operands}
 use Rattle.typer.proofs.+operands_type_of.Goals as goal
 
 pub operands-loop-k-init : goal.operands-loop-k-init

@@ -1,7 +1,7 @@
 -- `type_of` and `operands`, which call each other: the depth falls. The operands that are left end where the walk stands, and those passed have their types.
 use Rattle.std.proofs.Common.{ℕ, ◌+◌, ◌*◌, ◌≤◌}
 use Rattle.parts.specs.Part.{table}
-use Rattle.typer.specs.TypedLaws.{Going}
+use Rattle.typer.proofs.TypedLaws.{Going}
 use Rattle.typer.proofs.+operands_type_of.Given as goal
 
 abbrev pub decreases-operands : goal.decreases-operands

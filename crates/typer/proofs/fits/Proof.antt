@@ -1,6 +1,6 @@
 -- `fits`: what suits the type that is found.
 use borrow.Author.Rules.{rules}
-use Rattle.typer.specs.FittingLaws.{fits_found}
+use Rattle.typer.proofs.FittingLaws.{fits_found}
 use Rattle.typer.proofs.fits.Statement.{statement}
 use Rattle.typer.proofs.fits.Tie as tie
 

@@ -3,7 +3,7 @@ use mathlib.Core.Path.{sym, ap, subst, ◌∙◌}
 use borrow.Author.Rules.{rules}
 use Rattle.typer.specs.Leaves.{inferred_of}
 use Rattle.typer.specs.Fitting.{Assignable}
-use Rattle.typer.specs.FittingLaws.{assigned_suits, assigned_none}
+use Rattle.typer.proofs.FittingLaws.{assigned_suits, assigned_none}
 use Rattle.typer.proofs.fitting.assignable.Statement.{statement}
 use Rattle.typer.proofs.fitting.assignable.Tie as tie
 

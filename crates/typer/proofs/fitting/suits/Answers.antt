@@ -2,7 +2,7 @@
 use Rattle.std.proofs.Common.{sym, subst, nat_eq}
 use Rattle.typer.specs.declared.fitting.Role.{Role}
 use Rattle.typer.specs.Fitting.{Suits}
-use Rattle.typer.specs.FittingLaws.{condition_suits, wording_suits}
+use Rattle.typer.proofs.FittingLaws.{condition_suits, wording_suits}
 use Rattle.typer.proofs.fitting.suits.Goals as goal
 
 pub returns-in-Condition : goal.returns-in-Condition

@@ -22,8 +22,8 @@ use Rattle.waits.specs.Worked.{Sources}
 use Rattle.review.specs.Changes.{tasks_in}
 use Rattle.planned.specs.Planned.{sources_in, answered}
 use Rattle.plan_told.specs.Told.{SourcesTold, answer}
-use Rattle.plan_told.specs.RowLaws.{by_cases, same_truth, answer_yes, answered_as, not_added}
-use Rattle.plan_told.specs.ListLaws.{before_less, before_fits, before_last, from_each, counted, numbered_at, at_numbered}
+use Rattle.plan_told.proofs.RowLaws.{by_cases, same_truth, answer_yes, answered_as, not_added}
+use Rattle.plan_told.proofs.ListLaws.{before_less, before_fits, before_last, from_each, counted, numbered_at, at_numbered}
 
 sources_by : {g : List TopLevel} {T : ℕ} {l : List Component} → Adds g (task № T) Table.sources (components_are l) → (k : Task) × InstantiateTask g k T × (l ≡ numbered (sources_before T (tasks g)) (sources_of k))
 sources_by {g} {T} (source_5 {t} h e) = (t, h, ap (numbered (sources_before T (tasks g))) (sym e))

@@ -29,8 +29,8 @@ use Rattle.parts.specs.Part as Parts
 use Rattle.operations.specs.Rows.{target_at, assign_at, assigns_at}
 use Rattle.planned.specs.Planned.{assigned_end, assigned_task, Assignment, Assignments}
 use Rattle.plan_told.specs.Told.{Bounded, AssignmentsTold}
-use Rattle.plan_told.specs.ListLaws.{before_less, before_fits}
-use Rattle.plan_told.specs.ConditionLaws.{modest_tree}
+use Rattle.plan_told.proofs.ListLaws.{before_less, before_fits}
+use Rattle.plan_told.proofs.ConditionLaws.{modest_tree}
 
 -- ---- a task with one postcondition has its assignments
 

@@ -17,7 +17,7 @@ use Rattle.paper_engine.proofs.Laws.Kept.{Kept, adds, has}
 use Rattle.waits.specs.Twins.{marked, waiting}
 use Rattle.waits.specs.Worked.{Waits}
 use Rattle.plan_told.specs.Told.{WaitsTold}
-use Rattle.plan_told.specs.RowLaws.{component_task}
+use Rattle.plan_told.proofs.RowLaws.{component_task}
 
 -- a constraint, and the component that it names
 record Names (g : List TopLevel) (P : ℕ) (l : List (Placed ComponentAttribute)) (A : ℕ) : Type 0 where

@@ -26,7 +26,7 @@ use Rattle.parts.specs.Part as Parts
 use Rattle.parts.specs.Operands.{size_pos}
 use Rattle.truths.specs.Truth.{Condition}
 use Rattle.plan_told.specs.Told.{Bounded, ConditionsTold}
-use Rattle.plan_told.specs.RowLaws.{by_cases, not_added}
+use Rattle.plan_told.proofs.RowLaws.{by_cases, not_added}
 
 -- an expression of the guideline, without its parentheses
 pub modest_tree : {g : List TopLevel} {i : ℕ} {x : Typed} → Bounded g → At (expressions g) i x → Modest (bare x.expression.tree)

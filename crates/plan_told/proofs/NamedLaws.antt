@@ -25,9 +25,9 @@ use Rattle.truths.specs.Part.{part_at, part_size}
 use Rattle.review.specs.Changes.{tasks_in}
 use Rattle.planned.specs.Planned.{item_names, item_types, task_names, trigger_text}
 use Rattle.plan_told.specs.Told.{NamesTold}
-use Rattle.plan_told.specs.RowLaws.{by_cases, same_text, no_root}
-use Rattle.plan_told.specs.ListLaws.{indexed_long}
-use Rattle.plan_told.specs.TaskLaws.{trigger_by}
+use Rattle.plan_told.proofs.RowLaws.{by_cases, same_text, no_root}
+use Rattle.plan_told.proofs.ListLaws.{indexed_long}
+use Rattle.plan_told.proofs.TaskLaws.{trigger_by}
 
 name_by : {g : List TopLevel} {T : ℕ} {r : RowValue} → Adds g (task № T) Table.name r → (P : ℕ) × (a : Parts.Component) × InstantiateComponent g P a T
 name_by (attribute_1b {c} {a} h) = (c, a, h)

@@ -29,7 +29,7 @@ use Flat.{body, top_rows, own_rows, attributes_each, at_placed, placed_at, sub_k
 use Flat.{task-names, item-names, component_names, source_names, target_names}
 use Rattle.row_names.specs.Agreement
 use Agreement.{Agrees, in_list, top_of, RowOf, row_of, one_row, one_rank, thing_row, Thing, row_thing, Stand, stand_of, row_at, inside_sheet}
-use Rattle.row_names.specs.AttributeLaw as AttributeLaw
+use Rattle.row_names.proofs.AttributeLaw as AttributeLaw
 use Rattle.row_names.specs.Owners
 use Owners.{In, component_is, is_component, component_task, component_all, own_of, head_at, head_there, body_at, plain, InBody, in_body, generic_kind, generic_word}
 

@@ -13,12 +13,12 @@ use Rattle.waits.specs.Worked.{Worked}
 use Rattle.review.specs.Changes.{tasks_in, Numbers}
 use Rattle.planned.specs.Planned.{Planned}
 use Rattle.plan_told.specs.Told.{Bounded, Told}
-use Rattle.plan_told.specs.TaskLaws as Tasks
-use Rattle.plan_told.specs.WaitLaws as Waits
-use Rattle.plan_told.specs.SourceLaws as Sources
-use Rattle.plan_told.specs.ConditionLaws as Conditions
-use Rattle.plan_told.specs.AssignmentLaws as Assigned
-use Rattle.plan_told.specs.NamedLaws as Named
+use Rattle.plan_told.proofs.TaskLaws as Tasks
+use Rattle.plan_told.proofs.WaitLaws as Waits
+use Rattle.plan_told.proofs.SourceLaws as Sources
+use Rattle.plan_told.proofs.ConditionLaws as Conditions
+use Rattle.plan_told.proofs.AssignmentLaws as Assigned
+use Rattle.plan_told.proofs.NamedLaws as Named
 
 module _ {g : List TopLevel} {p : Parts.Table} {f : List ℕ} {w : List (List Bool)} (lawful : Lawful g) (bounded : Bounded g) (told : Told g p f w) where
   few_tasks : length (tasks g) ≤ 32

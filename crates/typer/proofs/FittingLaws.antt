@@ -23,7 +23,7 @@ use Rattle.resolution.specs.Letters.{letter, letter_reflects, Outcome, is, none}
 use Rattle.resolution.specs.Resolution.{Near, same, by, near_reflects, meets_of}
 use Rattle.typer.specs.Leaves.{inferred_of, inferred_letter}
 use Rattle.typer.specs.Typed as Tables
-use Rattle.typer.specs.TypedLaws.{typed_written}
+use Rattle.typer.proofs.TypedLaws.{typed_written}
 use Rattle.typer.specs.Fitting.{asks_condition, asks_wording, asks_assigned, Suits, Given, Fits}
 
 -- two answers that meet the contract are the same

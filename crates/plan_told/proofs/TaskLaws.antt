@@ -20,7 +20,7 @@ use Rattle.waits.specs.Twins.{parent_at, trigger_f, terminal_f, confirmatory_f, 
 use Rattle.waits.specs.Worked.{Parent, HasTrigger}
 use Rattle.planned.specs.Planned.{answered}
 use Rattle.plan_told.specs.Told.{TasksTold, class_code, answer, confirm_code}
-use Rattle.plan_told.specs.RowLaws.{by_cases, same_some, same_truth, answer_yes, answered_as, not_added, component_task, component_plan}
+use Rattle.plan_told.proofs.RowLaws.{by_cases, same_some, same_truth, answer_yes, answered_as, not_added, component_task, component_plan}
 
 -- ---- what put a row there
 

@@ -1,0 +1,9 @@
+pub mod ListLaws
+pub mod RowLaws
+pub mod TaskLaws
+pub mod SourceLaws
+pub mod ConditionLaws
+pub mod AssignmentLaws
+pub mod WaitLaws
+pub mod NamedLaws
+pub mod PlannedLaws
