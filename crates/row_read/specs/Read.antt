@@ -68,6 +68,7 @@ bare h n0 n1 n5 (at_later (at_later (at_later at_first))) = no_argument h
 bare h n0 n1 n5 (at_later (at_later (at_later (at_later at_first)))) = no_parameter h
 bare h n0 n1 n5 (at_later (at_later (at_later (at_later (at_later at_first))))) = absurd (n5 refl)
 bare h n0 n1 n5 (at_later (at_later (at_later (at_later (at_later (at_later at_first)))))) = no_warning h
+bare {g = g} {b = b} {f = f} {w = w} {s = s} {t = t} {flag = flag} {time = time} {n = n} {kind = kind} {q = q} {v = v} h n0 n1 n5 (at_later (at_later (at_later (at_later (at_later (at_later (at_later {i = i} x54))))))) = elim x54 [ ]
 
 module _ (k n p : ℕ) (f : List ℕ) (w : List (List Bool)) (s : List ℕ) (r : Row) where
   of_kind : (kind : Kind) → At kinds k kind → OfKind kind f w s n p r → RowOf k n p f w s r
