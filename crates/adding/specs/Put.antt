@@ -112,15 +112,28 @@ module _ {D : ℕ} {w : paper.Value} where
   of_other m (replaced n) = absurd (m (same_item (its_item n)))
   of_other m (kept n) = refl
 
+  -- the property and the row that are set
+  its_row : {c : Component} {p : Property} {o : Option RowValue} → AddDataValue D w c p o → ((p ≡ value) × (o ≡ some (value_is w))) ⊎ ((p ≡ requested) × (o ≡ some (truth_row false)))
+  its_row add_2a = inl (refl, refl)
+  its_row add_2b = inr (refl, refl)
+
   its_asked : {o : Option RowValue} → AddDataValue D w (data_item № D) requested o → o ≡ some (truth_row false)
-  its_asked add_2b = refl
+  its_asked {o} n = go (its_row n)
+    where
+      go : ((requested ≡ value) × (o ≡ some (value_is w))) ⊎ ((requested ≡ requested) × (o ≡ some (truth_row false))) → o ≡ some (truth_row false)
+      go (inl z) = let e = z.0 in cc
+      go (inr z) = z.1
 
   of_asked : {o o' : Option RowValue} → Replaced (AddDataValue D w) (data_item № D) requested o o' → o' ≡ some (truth_row false)
   of_asked (replaced n) = its_asked n
   of_asked (kept n) = absurd (n (some (truth_row false)) add_2b)
 
   its_value : {o : Option RowValue} → AddDataValue D w (data_item № D) value o → o ≡ some (value_is w)
-  its_value add_2a = refl
+  its_value {o} n = go (its_row n)
+    where
+      go : ((value ≡ value) × (o ≡ some (value_is w))) ⊎ ((value ≡ requested) × (o ≡ some (truth_row false))) → o ≡ some (value_is w)
+      go (inl z) = z.1
+      go (inr z) = let e = z.0 in cc
 
   of_value : {o o' : Option RowValue} → Replaced (AddDataValue D w) (data_item № D) value o o' → o' ≡ some (value_is w)
   of_value (replaced n) = its_value n
