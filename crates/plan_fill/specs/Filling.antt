@@ -6,7 +6,7 @@ use Rattle.row_names.specs.Sheet.{task_kind}
 use Rattle.row_names.specs.Flat.{is_data}
 use Rattle.row_tests.specs.Table.{kind_of}
 use Rattle.name_tests.specs.Lists.{Gathers, Lists}
-use Rattle.names.specs.Verdict.{blank_all}
+use Rattle.names.proofs.VerdictLaws.{blank_all}
 use Rattle.plan.specs.Writes.{outline, tasks_before, parent, plan_f, first}
 use Rattle.plan.specs.Filled.{plan_cells, Held, Fit, Filled, Fills}
 use Rattle.plan_cells.specs.Finds.{tally_counted}

@@ -2,7 +2,7 @@
 use Prim.Native.Nat.{ℕ}
 use lib.ListN.{length-replicate}
 use borrow.Author.Rules.{rules}
-use Rattle.names.specs.Verdict.{too_long, too_many_tasks, too_many_items, concluded, blank_all}
+use Rattle.names.proofs.VerdictLaws.{too_long, too_many_tasks, too_many_items, concluded, blank_all}
 use Rattle.names.proofs.check.Statement.{statement}
 use Rattle.names.proofs.check.Tie as tie
 

@@ -3,7 +3,8 @@ use mathlib.Core.Path.{◌≡◌, subst}
 use Prim.Native.Nat.{ℕ, ◌-◌, ◌≤◌}
 use native.Mathlib.Omega.{arith}
 use borrow.Author.Rules.{rules}
-use Rattle.names.specs.Verdict.{AllFlaws, flaws_none}
+use Rattle.names.specs.Verdict.{AllFlaws}
+use Rattle.names.proofs.VerdictLaws.{flaws_none}
 use Rattle.names.proofs.flaws.flaws.Statement.{statement}
 use Rattle.names.proofs.flaws.flaws.Tie as tie
 

@@ -1,6 +1,6 @@
 -- `judge`: a row with a flaw, or without.
 use borrow.Author.Rules.{rules}
-use Rattle.names.specs.Verdict.{judges_yes, judges_no}
+use Rattle.names.proofs.VerdictLaws.{judges_yes, judges_no}
 use Rattle.names.proofs.flaws.judge.Statement.{statement}
 use Rattle.names.proofs.flaws.judge.Tie as tie
 

@@ -1,6 +1,6 @@
 -- `spot`: the two cases of the definition.
 use borrow.Author.Rules.{rules}
-use Rattle.names.specs.Verdict.{spot_word, spot_name}
+use Rattle.names.proofs.VerdictLaws.{spot_word, spot_name}
 use Rattle.names.proofs.flaws.spot.Statement.{statement}
 use Rattle.names.proofs.flaws.spot.Tie as tie
 

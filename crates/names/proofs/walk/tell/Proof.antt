@@ -1,6 +1,6 @@
 -- `tell`: a task without a mark, or with one.
 use borrow.Author.Rules.{rules}
-use Rattle.names.specs.Verdict.{tell_yes, tell_no}
+use Rattle.names.proofs.VerdictLaws.{tell_yes, tell_no}
 use Rattle.names.proofs.walk.tell.Statement.{statement}
 use Rattle.names.proofs.walk.tell.Tie as tie
 

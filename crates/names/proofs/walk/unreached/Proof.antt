@@ -3,7 +3,8 @@ use mathlib.Core.Path.{◌≡◌, subst}
 use Prim.Native.Nat.{ℕ, ◌-◌, ◌≤◌}
 use native.Mathlib.Omega.{arith}
 use borrow.Author.Rules.{rules}
-use Rattle.names.specs.Verdict.{Tells, tells_none}
+use Rattle.names.specs.Verdict.{Tells}
+use Rattle.names.proofs.VerdictLaws.{tells_none}
 use Rattle.names.proofs.walk.unreached.Statement.{statement}
 use Rattle.names.proofs.walk.unreached.Tie as tie
 
