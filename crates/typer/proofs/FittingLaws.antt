@@ -21,7 +21,8 @@ use Rattle.typer.specs.declared.fitting.Role.{Role}
 use Rattle.typer.specs.declared.fitting.Role.TheVariants.{Condition, Wording, Assigned}
 use Rattle.resolution.specs.Letters.{letter, letter_reflects, Outcome, is, none}
 use Rattle.resolution.specs.Resolution.{Near, same, by, near_reflects, meets_of}
-use Rattle.typer.specs.Leaves.{inferred_of, inferred_letter}
+use Rattle.typer.specs.Leaves.{inferred_of}
+use Rattle.typer.proofs.LeavesLaws.{inferred_letter}
 use Rattle.typer.specs.Typed as Tables
 use Rattle.typer.proofs.TypedLaws.{typed_written}
 use Rattle.typer.specs.Fitting.{asks_condition, asks_wording, asks_assigned, Suits, Given, Fits}

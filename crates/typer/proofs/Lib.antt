@@ -1,2 +1,3 @@
 pub mod TypedLaws
 pub mod FittingLaws
+pub mod LeavesLaws

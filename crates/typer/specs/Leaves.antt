@@ -1,33 +1,17 @@
--- The types of atoms and constants, by kind and load; and the law that they are the rules'. By cases.
-use Rattle.std.specs.Prelude.{◌≡◌, refl, cond, List, ℕ, ◌≤◌, ◌<◌, eqb, get_or, length}
-use Rattle.std.proofs.Common.{sym, ap, subst, ◌∙◌, arith}
+-- The types of atoms and constants, by kind and load. Definitions only; the law that they are the rules' is in proofs/LeavesLaws.antt.
+use Rattle.std.specs.Prelude.{◌≡◌, cond, List, ℕ, ◌<◌, eqb, get_or}
 use Rattle.paper_expressions.specs.Bytes.{bytes}
-use Rattle.paper_expressions.specs.Types.{Declared, inferred, a_text, an_integer, a_boolean, a_datetime, a_date, a_time, a_real, a_setof_text, a_setof_integer, a_setof_real}
 use Rattle.paper_expressions.specs.View.{View}
-use Rattle.paper_expressions.specs.Expressions.{Expr, Atom, IntegerLit, FloatLit, StringLit, Paren, Listing, Apply, HasType, rule_1b, rule_1c, rule_2, rule_3, rule_4}
-use Rattle.parts.specs.Codes.{kind, declared_code}
-use Rattle.parts.specs.CodeRange.{operator_code}
+use Rattle.paper_expressions.specs.Expressions.{Expr, Atom, HasType}
+use Rattle.parts.specs.Codes.{kind}
 use Rattle.parts.specs.Texts.{text_at_fn}
 use Rattle.parts.specs.Part.{Load}
-use Rattle.parts.specs.Items.{Items, Found}
-use Rattle.parts.specs.ItemLaws.{resolved, unresolved}
-use Rattle.resolution.specs.Letters.{letter, Outcome, is, as_is}
+use Rattle.parts.specs.Items.{Items}
+use Rattle.resolution.specs.Letters.{letter, Outcome, is}
 
 -- 4.3, by the number of the declared type
 abbrev pub inferred_of : ℕ → ℕ
 inferred_of d = get_or (bytes " TITRRRRtir") d 0
-
-pub inferred_letter : (d : Declared) → inferred_of (declared_code d) ≡ letter (inferred d)
-inferred_letter a_text = refl
-inferred_letter an_integer = refl
-inferred_letter a_boolean = refl
-inferred_letter a_datetime = refl
-inferred_letter a_date = refl
-inferred_letter a_time = refl
-inferred_letter a_real = refl
-inferred_letter a_setof_text = refl
-inferred_letter a_setof_integer = refl
-inferred_letter a_setof_real = refl
 
 -- r is the type of the atom, in the task T, whose name has the handle h
 abbrev pub AtomTyped : List ℕ → List ℕ → List ℕ → ℕ → ℕ → ℕ → Type 0
@@ -37,24 +21,6 @@ AtomTyped b names types T h r = (v : View) → Items b names types v → Outcome
 abbrev pub LeafTyped : List ℕ → List ℕ → List ℕ → ℕ → ℕ → ℕ → ℕ → Type 0
 LeafTyped b names types T k x r = (v : View) (e : Expr) → Items b names types v → k ≡ kind e → k < 5 → Load b e x → Outcome (HasType v T e) r
 
-pub atom_item : (b names types : List ℕ) (T h i r : ℕ) → Found b names h i → i < length names → r ≡ inferred_of (get_or types i 0) → AtomTyped b names types T h r
-atom_item b names types T h i r f l e v held =
-    let x = resolved held f l in
-    as_is (inferred x.0.declared) (e ∙ ap inferred_of (held.typed x.1) ∙ inferred_letter x.0.declared) (rule_1b x.1 x.2 refl)
-
-pub atom_text : (b names types : List ℕ) (T h i : ℕ) → Found b names h i → length names ≤ i → AtomTyped b names types T h 84
-atom_text b names types T h i f l v held = is (rule_1c (unresolved held f l))
-
 -- the letter of each kind, given the atom's
 abbrev pub leaf_of : ℕ → ℕ → ℕ
 leaf_of k a = cond (eqb k 1) a (cond (eqb k 2) 73 (cond (eqb k 3) 82 (cond (eqb k 4) 84 0)))
-
-pub leaf_typed : (b names types : List ℕ) (T k x a r : ℕ) → (k ≡ 1 → AtomTyped b names types T x a) → r ≡ leaf_of k a → LeafTyped b names types T k x r
-leaf_typed b names types T k x a r f y v (Atom n) held e l h =
-    subst (Outcome (HasType v T (Atom n))) (sym (y ∙ ap (λ (m : ℕ). leaf_of m a) e)) (subst (λ (s : List ℕ). Outcome (HasType v T (Atom s)) a) h (f e v held))
-leaf_typed b names types T k x a r f y v (IntegerLit n) held e l h = subst (Outcome (HasType v T (IntegerLit n))) (sym (y ∙ ap (λ (m : ℕ). leaf_of m a) e)) (is rule_2)
-leaf_typed b names types T k x a r f y v (FloatLit n) held e l h = subst (Outcome (HasType v T (FloatLit n))) (sym (y ∙ ap (λ (m : ℕ). leaf_of m a) e)) (is rule_3)
-leaf_typed b names types T k x a r f y v (StringLit n) held e l h = subst (Outcome (HasType v T (StringLit n))) (sym (y ∙ ap (λ (m : ℕ). leaf_of m a) e)) (is rule_4)
-leaf_typed b names types T k x a r f y v (Paren n) held e l h = absurd h
-leaf_typed b names types T k x a r f y v (Listing es) held e l h = absurd (omega arith)
-leaf_typed b names types T k x a r f y v (Apply o es) held e l h = let c = operator_code o in absurd (omega arith)

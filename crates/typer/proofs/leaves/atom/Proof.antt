@@ -1,7 +1,8 @@
 -- `atom`: the item that is found, or text.
 use mathlib.Core.Path.{ap, ◌∙◌}
 use borrow.Author.Rules.{rules}
-use Rattle.typer.specs.Leaves.{inferred_of, atom_item, atom_text}
+use Rattle.typer.specs.Leaves.{inferred_of}
+use Rattle.typer.proofs.LeavesLaws.{atom_item, atom_text}
 use Rattle.typer.proofs.leaves.atom.Statement.{statement}
 use Rattle.typer.proofs.leaves.atom.Tie as tie
 

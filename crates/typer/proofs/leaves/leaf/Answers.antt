@@ -1,6 +1,7 @@
 -- `leaf`: each arm is a rule.
 use Rattle.std.proofs.Common.{sym, ap, arith, ℕ}
-use Rattle.typer.specs.Leaves.{leaf_of, leaf_typed}
+use Rattle.typer.specs.Leaves.{leaf_of}
+use Rattle.typer.proofs.LeavesLaws.{leaf_typed}
 use Rattle.typer.proofs.leaves.leaf.Goals as goal
 
 pub returns-in-2 : goal.returns-in-2
