@@ -1,23 +1,20 @@
 -- What is claimed of a run in every turn, and that the first turn and each next one meet it; at the end it is the run's contract. By the tests of the call in their order, and the published run.
-use Rattle.std.specs.Prelude.{ℕ, zero, suc, ◌+◌, ◌*◌, ◌<◌, ◌≤◌, ◌≡◌, refl, Bool, true, false, List, [], ◌∷◌, eqb, length, get_or, replicate}
+use Rattle.std.specs.Prelude.{ℕ, zero, suc, ◌<◌, ◌≤◌, ◌≡◌, refl, Bool, true, false, List, [], ◌∷◌, eqb, length, replicate}
 use Rattle.std.proofs.Common.{arith, sym, ap, subst, ◌∙◌}
 use Rattle.std.proofs.lemmas.List.{length-replicate, get_or-replicate}
 use Rattle.paper_expressions.specs.View.{At, at_first, at_later}
 use Rattle.paper_expressions.proofs.Laws.Search.{no_clash}
-use Rattle.paper_guideline.specs.Structure.{TopLevel}
-use Rattle.paper_rows.specs.Table.{Table}
 use Rattle.paper_engine.specs.Cycle as Cycle
 use Cycle.{Ending, quiet, bounded, exception, ends}
 use Rattle.paper_calls.specs.Calls as Calls
 use Calls.{State, loaded, run, Calls, run_7, run_6_bound, run_6_lent, run_done, cycle_limit, changes_least, ran, refuses, Leaves, left_blank, left_as_it_was}
-use Rattle.holding.specs.Holding.{Holds}
 use Rattle.replying.specs.Replying.{Holding, holds_none, holds_loaded, Called, Replies}
 use Rattle.replying.specs.Ready.{ready_f, replies_7, replies_refused, ready_loaded, not_empty, not_unready, is_ready}
 use Rattle.asking.specs.Asks.{SameRows, asked_there}
 use Rattle.change_rows.specs.declared.Row.{Row}
 use Rattle.change_rows.specs.declared.Asked.{Asked}
 use Rattle.change_rows.specs.Blank.{blank, Blanked, all_blank, none_blank}
-use Rattle.change_rows.specs.Numbers.{row_at, Appended, Taken, back}
+use Rattle.change_rows.specs.Numbers.{Appended, Taken, back}
 use Rattle.running.specs.declared.Turn.{Turn}
 use Rattle.running.specs.Run as Running
 use Running.{Turned, Ends, Nexts, AskedNow}
