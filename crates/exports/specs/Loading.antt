@@ -4,7 +4,6 @@ use Rattle.std.proofs.Common.{sym, ap, subst}
 use Rattle.std.proofs.lemmas.List.{get_or-replicate}
 use Rattle.square.specs.Square.{square_of, IsSquare, Packed, unpacked, one_packed}
 use Rattle.load.specs.declared.Reply.{Reply}
-use Rattle.load.specs.declared.Reply.TheVariants as Reply
 use Rattle.load.specs.Loads.{Lent, lent, Outcome as Leaves, Replied}
 use Rattle.load.specs.LoadsLaws.{one_reply}
 use Rattle.loaded.specs.Loaded.{published}
