@@ -5,13 +5,13 @@ use Rattle.advise.proofs.done.hush_row.Statement.{statement}
 use Rattle.advise.proofs.done.hush_row.Tie as tie
 
 returns : tie.Need-returns-then-i-ge-ROWS
-returns c = let a = c.before.before.before.args in past_row a.out.now a.i a.state.now c.if-i-ge-ROWS.true
+returns c = let a = c.args in past_row a.out.now a.i a.state.now c.if-i-ge-ROWS.true
 
 returns-2 : tie.Need-returns-then-is_idle
-returns-2 c = let a = c.before.before.before.before.before.before.before.before.before.before.args in hushed_as a.out.now a.i a.state.now c.before.before.before.before.before.is_idle.ensures c.before.before.before.before.if-is_idle.true c.before.before.put_cell.ensures
+returns-2 c = let a = c.args in hushed_as a.out.now a.i a.state.now c.before.before.before.before.before.is_idle.ensures c.before.before.before.before.if-is_idle.true c.before.before.put_cell.ensures
 
 returns-3 : tie.Need-returns-else-is_idle
-returns-3 c = let a = c.before.before.before.before.before.before.args in left_as a.out.now a.i a.state.now c.before.is_idle.ensures c.if-is_idle.false
+returns-3 c = let a = c.args in left_as a.out.now a.i a.state.now c.before.is_idle.ensures c.if-is_idle.false
 
 pub hush_row_spec : {M : Type 1} → statement M
 hush_row_spec =

@@ -28,7 +28,7 @@ same-length-2 c = c.before.before.before.before.state-1.given ∙ c.before.befor
 returns : tie.Need-returns-then-not-is_bounded invariant-loop decreases-loop
 returns c =
     over_before c.before.before.before.before.before.before.before.enact-c.result c.before.before.after-r.result c.before.before.before.before.before.before.before.before.before.before.before.loop-i.invariant.3 (omega arith) c.before.before.before.before.before.before.before.enact-c.ensures c.before.before.after-r.ensures c.before.is_bounded.ensures
-    c.before.before.before.before.before.before.before.before.before.before.before.before.before.before.before.before.before.args.bound (omega arith) (omega arith) (not-true _ c.if-not-is_bounded.true-raw)
+    c.args.bound (omega arith) (omega arith) (not-true _ c.if-not-is_bounded.true-raw)
 
 loop-again : tie.Need-loop-i-preserved invariant-loop decreases-loop
 loop-again c = (

@@ -5,7 +5,7 @@ use Rattle.replay.proofs.listing.row_line.Statement.{statement}
 use Rattle.replay.proofs.listing.row_line.Tie as tie
 
 returns : tie.Need-returns
-returns c = from_room c.before.before.before.before.before.before.before.before.args.o c.before.before.before.before.room-from.ensures c.before.before.row.ensures
+returns c = from_room c.args.o c.before.before.before.before.room-from.ensures c.before.before.row.ensures
 
 pub row_line_spec : {M : Type 1} → statement M
 row_line_spec =

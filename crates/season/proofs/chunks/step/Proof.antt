@@ -7,7 +7,7 @@ use Rattle.season.proofs.chunks.step.Tie as tie
 
 returns : tie.Need-returns
 returns c =
-    let a = c.before.before.before.before.before.before.before.before.before.before.before.before.before.before.before.before.before.before.before.before.before.before.before.args in
+    let a = c.args in
     taken_on a.s.separator a.p.at (read a.p.work.scan a.kept.now a.ends.now) a.chunk.now c.before.before.before.before.before.before.before.before.before.before.before.before.before.before.before.before.before.before.before.before.before.before.before.requires c.before.before.before.before.before.before.before.before.before.before.before.take-t.ensures
 
 pub step_spec : {M : Type 1} → statement M

@@ -12,7 +12,7 @@ returns-2 : tie.Need-returns-then-scan
 returns-2 c = a_line c.if-scan-ne-NONE.false c.before.before.if-scan.true
 
 returns-3 : tie.Need-returns
-returns-3 c = none_began (eqb c.before.before.args.scan.fault 0) c.before.if-scan.false
+returns-3 c = none_began (eqb c.args.scan.fault 0) c.before.if-scan.false
 
 pub is_line_spec : {M : Type 1} → statement M
 is_line_spec = tie.close (tie.spec (λ c κs. search rules) returns returns-2 (λ c κs. search rules) returns-3)

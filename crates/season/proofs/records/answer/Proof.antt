@@ -5,7 +5,7 @@ use Rattle.season.proofs.records.answer.Statement.{statement}
 use Rattle.season.proofs.records.answer.Tie as tie
 
 returns : tie.Need-returns
-returns c = answered_as c.before.before.before.before.before.before.before.before.before.before.before.before.before.before.args.w.answered c.begin.ensures c.before.before.before.one_more-answered.ensures c.before.before.before.before.before.before.answered_at-o.ensures
+returns c = answered_as c.args.w.answered c.begin.ensures c.before.before.before.one_more-answered.ensures c.before.before.before.before.before.before.answered_at-o.ensures
 
 pub answer_spec : {M : Type 1} → statement M
 answer_spec =

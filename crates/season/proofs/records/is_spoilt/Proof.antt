@@ -5,13 +5,13 @@ use Rattle.season.proofs.records.is_spoilt.Statement.{statement}
 use Rattle.season.proofs.records.is_spoilt.Tie as tie
 
 returns : tie.Need-returns-then-scan-ne-NONE
-returns c = let a = c.before.before.before.args in with_fault a.scan a.many c.before.if-scan-ne-NONE.true
+returns c = let a = c.args in with_fault a.scan a.many c.before.if-scan-ne-NONE.true
 
 returns-2 : tie.Need-returns-then-scan-many
-returns-2 c = let a = c.before.before.before.before.before.args in other_number a.scan a.many c.before.before.before.if-scan-ne-NONE.false c.before.if-scan-many.true
+returns-2 c = let a = c.args in other_number a.scan a.many c.before.before.before.if-scan-ne-NONE.false c.before.if-scan-many.true
 
 returns-3 : tie.Need-returns
-returns-3 c = let a = c.before.before.before.before.args in as_many a.scan a.many c.before.before.if-scan-ne-NONE.false c.if-scan-many.false
+returns-3 c = let a = c.args in as_many a.scan a.many c.before.before.if-scan-ne-NONE.false c.if-scan-many.false
 
 pub is_spoilt_spec : {M : Type 1} → statement M
 is_spoilt_spec =
