@@ -7,12 +7,12 @@ use Rattle.season.proofs.one_line.add_field.Tie as tie
 
 returns : tie.Need-returns-then-d-ge-LIMIT
 returns c =
-    let a = c.before.before.before.before.before.before.before.before.before.args in
+    let a = c.args in
     label_as a.columns.now a.kept.now a.ends.now a.plan.now a.i a.texts.now a.state.now c.before.before.item_of-d.ensures c.before.cell-name.ensures c.if-d-ge-LIMIT.true
 
 returns-2 : tie.Need-returns
 returns-2 c =
-    let a = c.before.before.before.before.before.before.before.before.before.before.before.before.before.before.before.before.before.before.before.before.args in
+    let a = c.args in
     item_as a.columns.now a.kept.now a.ends.now a.plan.now a.i a.texts.now a.state.now c.before.before.before.before.before.before.before.before.before.before.before.before.before.item_of-d.ensures c.before.before.before.before.before.before.before.before.before.before.before.before.cell-name.ensures (omega arith) c.before.before.before.before.before.before.before.before.before.before.field-f.ensures c.before.before.before.before.before.before.before.add-number.ensures
 
 pub add_field_spec : {M : Type 1} → statement M
