@@ -1,0 +1,9 @@
+pub mod RunTold
+pub mod RowLaws
+pub mod RunLaws
+pub mod CallsTold
+pub mod CallsToldLaws
+pub mod GivenLaws
+pub mod HandedLaws
+pub mod Answer
+pub mod AnswerLaws

@@ -1,0 +1,11 @@
+pub mod Series
+pub mod SeriesLaws
+pub mod UntilQuiet
+pub mod UntilQuietLaws
+pub mod OneLine
+pub mod OneLineLaws
+pub mod Lines
+pub mod LinesLaws
+pub mod FirstLine
+pub mod Chunks
+pub mod ChunksLaws
