@@ -10,4 +10,3 @@ returns-then-r-lt-YES c = c.narrow.ensures ∙ sym (cond_yes _ _ _ (lt-ltb c.arg
 
 pub returns : goal.returns
 returns c = c.atom_kind.ensures ∙ sym (cond_not _ _ _ (le-ltb c.args.r 95 c.if-r-lt-YES.false))
-

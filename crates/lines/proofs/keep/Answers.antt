@@ -11,4 +11,3 @@ returns-then-kept-n c = no_room c.args.b c.if-n-ge-KEPT.false c.if-kept-n.true
 
 pub returns : goal.returns
 returns c = behind c.args.b c.if-n-ge-KEPT.false c.if-kept-n.false
-

@@ -17,4 +17,3 @@ loop-i-preserved c = (omega arith, below_more _ _ c.loop-i.invariant.1 c.if-text
 
 pub returns : goal.returns
 returns c = record { within = omega arith; before = c.loop-i.invariant.1; there = λ h. absurd (omega arith) }
-

@@ -10,4 +10,3 @@ returns-then-longest-gt-LIST_LIMIT c = inr c.if-longest-gt-LIST_LIMIT.true
 
 pub returns : goal.returns
 returns c = (c.if-depth-gt-DEPTH.false, c.if-longest-gt-LIST_LIMIT.false)
-

@@ -9,4 +9,3 @@ returns-then-letter-eq0 c = λ line h. without_type h refl c.requires c.type_of-
 
 pub returns : goal.returns
 returns c = λ line h. with_type h refl c.requires c.type_of-letter.ensures c.if-letter-eq0.false c.worth.ensures
-

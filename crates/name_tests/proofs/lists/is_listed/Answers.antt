@@ -9,4 +9,3 @@ returns-then-to-i c = let a = c.args in listed_beyond a.rows.now a.bytes.now a.l
 
 pub returns : goal.returns
 returns c = let a = c.args in listed_before a.rows.now a.bytes.now a.list.now a.to a.folded a.h a.k c.number-i.ensures c.if-to-i.false c.handle.ensures c.matches.ensures
-

@@ -8,4 +8,3 @@ returns-then-byte-eq-NONE c = let a = c.args in tell_yes a.rows.now a.tasks.now 
 
 pub returns : goal.returns
 returns c = let a = c.args in tell_no a.rows.now a.tasks.now a.marks.now a.k a.best c.byte.ensures c.if-byte-eq-NONE.false
-
