@@ -1,4 +1,4 @@
-// What C and Rust link: the public calls over slices of numbers. Who waits for whom is 1,024 bytes, 1 for a mark.
+// The public calls over slices of numbers, which exports_c hands on to C and Rust. Who waits for whom is 1,024 bytes, 1 for a mark.
 // The names begin with the library's, since a program has one space of names for all that it links.
 #![tactic(auto)]
 
