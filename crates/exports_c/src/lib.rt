@@ -98,6 +98,6 @@ pub extern "C" fn schotterei_read(
     ensures { Reads kind component property texts.now plan.now (square_of waits.now) state.now cells.new bytes.new result }
 {
     exports::schotterei_read(
-        texts, plan, waits, state, kind, component, property, cells, Form, bytes, Form,
+        texts, plan, waits, state, kind, component, property, cells, bytes,
     )
 }
