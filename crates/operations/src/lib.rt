@@ -89,6 +89,7 @@ fn complete(f: &[u32], t: u32, clock: u32, out: &mut [u32], n: usize) -> usize
 }
 
 // 8.5.1: the rows of the clause that fits.
+#[tactic(auto, using(crate::specs::Review::rows_4, crate::specs::Review::rows_5))]
 pub fn review_one(
     s: &[u32],
     f: &[u32],
