@@ -67,6 +67,7 @@ fn only_name(s: &[u8], at: usize) -> Name
 }
 
 // A command on something that has a name.
+#[tactic(auto, unfolding(crate::specs::Commands::on_name))]
 fn on_name(s: &[u8], at: usize, k: Keyword) -> Command
     ensures { result ≡ on_name s.now at k }
 {
@@ -138,6 +139,7 @@ fn by(a: Amount, way: Way) -> Command
 }
 
 // The command whose word stands between two places.
+#[tactic(auto, unfolding(crate::specs::Commands::by_word))]
 fn by_word(s: &[u8], from: usize, to: usize) -> Command
     ensures { result ≡ by_word s.now from to }
 {

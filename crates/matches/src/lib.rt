@@ -22,6 +22,7 @@ const FIRST_HIGH: u8 = Guideline::LAST_BYTE + 1;
 const LAST_HIGH: u8 = 255;
 
 // The kind of a byte: the thirteen kinds of the definitions, with the bytes of symbols told apart from the others.
+#[tactic(auto, unfolding(crate::specs::Kinds::fine_of, paper_tokens::specs::Kinds::kind_of))]
 pub fn kind(b: u8) -> usize
     ensures { result ≡ fine_of b }
 {

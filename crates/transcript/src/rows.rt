@@ -19,6 +19,7 @@ pub fn refused(n: u8, place: usize, out: &mut [u8], o: usize) -> usize
     next_number(place, out, q)
 }
 
+#[tactic(auto, unfolding(crate::specs::Answers::state_words))]
 fn state(n: u32, out: &mut [u8], o: usize) -> usize
     ensures { Appends out.old out.new o result (state_word n) }
 {
@@ -31,6 +32,7 @@ fn state(n: u32, out: &mut [u8], o: usize) -> usize
 }
 
 // The classes that a load gives.
+#[tactic(auto, unfolding(crate::specs::Answers::class_words))]
 fn class(n: u32, out: &mut [u8], o: usize) -> usize
     ensures { Appends out.old out.new o result (class_word n) }
 {
@@ -43,6 +45,7 @@ fn class(n: u32, out: &mut [u8], o: usize) -> usize
     }
 }
 
+#[tactic(auto, unfolding(crate::specs::Answers::type_words))]
 fn declared(n: u32, out: &mut [u8], o: usize) -> usize
     ensures { Appends out.old out.new o result (type_word n) }
 {
