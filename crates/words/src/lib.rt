@@ -48,12 +48,6 @@ impl Known {
     }
 }
 
-fn wide(b: u8) -> usize
-    ensures { result ≡ b }
-{
-    b as usize
-}
-
 // The strings, which a look-up makes once and hands on.
 fn words() -> [u8; Known::BYTES]
     ensures { result ≡ table }
@@ -66,14 +60,7 @@ pub fn same(text: &[u8], at: usize, table: &[u8], p: usize, n: usize) -> bool
     requires { (at + n ≤ length text.now) × (p + n ≤ length table.now) }
     ensures { Same (part text.now at n) (part table.now p n) result }
 {
-    let mut j = 0usize;
-    while j < n {
-        if text[at + j] != table[p + j] {
-            return false;
-        }
-        j += 1;
-    }
-    true
+    text[at..at + n] == table[p..p + n]
 }
 
 // .. and the string that stands there in the table, of this size, has n bytes.
@@ -81,10 +68,7 @@ pub fn stands(text: &[u8], at: usize, n: usize, table: &[u8], p: usize, size: us
     requires { (at + n ≤ length text.now) × (p + size ≤ length table.now) }
     ensures { Same (part text.now at n) (part table.now p size) result }
 {
-    if size != n {
-        return false;
-    }
-    same(text, at, table, p, n)
+    size == n && same(text, at, table, p, n)
 }
 
 // Which of the strings the n bytes of the text at a place are; Known::COUNT for none.
@@ -93,15 +77,13 @@ pub fn look_up(text: &[u8], at: usize, n: usize) -> usize
     ensures { Found (part text.now at n) result }
 {
     let words = words();
-    let mut p = 0usize;
-    let mut i = 0usize;
-    while i < Known::COUNT {
-        let size = wide(words[p]);
+    let mut p = 0;
+    for i in 0..Known::COUNT {
+        let size = usize::from(words[p]);
         if stands(text, at, n, &words, p + 1, size) {
             return i;
         }
         p += size + 1;
-        i += 1;
     }
     Known::COUNT
 }
