@@ -20,7 +20,7 @@ table_length : length table ≡ 806
 unfolding table packed strings reserved yes_or_no data_types
 table_length = refl
 
-strings_length : length strings ≡ 107
+pub strings_length : length strings ≡ 107
 unfolding strings reserved yes_or_no data_types
 strings_length = refl
 
