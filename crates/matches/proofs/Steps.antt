@@ -6,12 +6,12 @@ use native.Mathlib.Nat.{add-zero}
 use mathlib.Core.Path.{◌≡◌, refl, sym, ap, subst, ◌∙◌}
 use mathlib.Core.Bool.{Bool, true, false, cond}
 use mathlib.Core.Logic.{◌⊎◌, inl, inr, ⊎_elim}
-use mathlib.Core.List.{List, [], ◌∷◌, ◌++◌}
-use borrow.Author.Tests.{lt-ltb, le-ltb, ltb-true, ltb-false, eqb-true, eqb-false}
+use mathlib.Core.List.{List}
+use borrow.Author.Tests.{lt-ltb, le-ltb, ltb-true, ltb-false}
 use borrow.Author.Count.{below_more}
 use lib.Dec.{ltb, eqb, ltb→lt, eqb→eq}
 use lib.ListN.{length, take, drop, get_or, set, length-drop}
-use lib.Seq.{take-suc, get_or-drop, get_or-set_same, get_or-set_other}
+use lib.Seq.{take-suc, length-take-le, get_or-take, get_or-drop, get_or-set_same, get_or-set_other}
 use Rattle.paper_expressions.proofs.Laws.Tests.{contra, two}
 use Rattle.paper_tokens.specs.Lexical.{part}
 use Rattle.matches.specs.Kinds.{fine_of}
@@ -201,13 +201,13 @@ module _ (states : List ℕ) (r q : ℕ) (f g : ℕ → ℕ) where
   pub set_left : ((j : ℕ) → r ≤ j → j < 7 → get_or states j 0 ≡ g j) → (j : ℕ) → r + 1 ≤ j → j < 7 → get_or (set states r q) j 0 ≡ g j
   set_left d j h l = get_or-set_other states r j q 0 (λ z. omega arith) ∙ d j (omega arith) l
 
-  pub set_quiet : (alive : ℕ) → q ≡ f r → (alive ≡ 0 → (j : ℕ) → j < r → f j ≡ 0) → alive + q ≡ 0 → (j : ℕ) → j < r + 1 → f j ≡ 0
-  set_quiet alive e d z = below_more (λ (j : ℕ). f j ≡ 0) r (d (omega arith)) (sym e ∙ (let y : q ≡ 0 = omega arith in y))
+-- the byte n behind a place
+pub behind : (t : List ℕ) (at n : ℕ) → n < length (take (length t - at) (drop at t)) → at + n < length t
+behind t at n h = omega (arith, length-take-le (length t - at) (drop at t), length-drop at t)
 
-pub after_step : (t : List ℕ) (at : ℕ) (g : List ℕ) (ok : Begun t at g) (j i s q : ℕ) → at ≤ i → i < length t
-    → s ≡ After g t at j (i - at) → q ≡ next_of s (fine_of (get_or t i 0)) → q ≡ After g t at j (i - at + 1)
-after_step t at g ok j i s q h l e f =
-    let z : at + (i - at) ≡ i = omega arith in
-    f ∙ ap (λ (x : ℕ). next_of x (fine_of (get_or t i 0))) e
-    ∙ ap (λ (x : ℕ). next_of (After g t at j (i - at)) (fine_of (get_or t x 0))) (sym z)
-    ∙ sym (after_more t at g ok j (i - at) (omega arith))
+pub after_step : (t : List ℕ) (at : ℕ) (g : List ℕ) (ok : Begun t at g) (j n s k q : ℕ) → n < length (take (length t - at) (drop at t))
+    → s ≡ After g t at j n → k ≡ fine_of (get_or (take (length t - at) (drop at t)) n 0) → q ≡ next_of s k → q ≡ After g t at j (n + 1)
+after_step t at g ok j n s k q h e f d =
+    let l = behind t at n h in
+    let b = get_or-take (length t - at) (drop at t) n 0 (omega arith) ∙ get_or-drop at t n 0 in
+    d ∙ ap (λ (x : ℕ). next_of x k) e ∙ ap (next_of (After g t at j n)) (f ∙ ap fine_of b) ∙ sym (after_more t at g ok j n l)

@@ -1,6 +1,5 @@
 -- The machine of the code, and what it takes. What it has to do with the rules of section 2 is in proofs/Cert.antt. Definitions only.
 use Rattle.std.specs.Prelude.{ℕ, ◌+◌, ◌-◌, ◌*◌, ◌≤◌, ◌<◌, ◌≡◌, Bool, true, List, [], ◌∷◌, ◌++◌, eqb, get_or, length}
-use Prim.Native.String.{String}
 use Rattle.paper_expressions.specs.Bytes.{bytes}
 use Rattle.paper_tokens.specs.Lexical.{part}
 use Rattle.matches.specs.Kinds.{fine_of}

@@ -14,7 +14,7 @@ use limits::Guideline;
 pub use numbers::Rule;
 use numbers::{ByteKind, State};
 
-// The bytes of what begins a comment, and of what ends it.
+// The bytes of what begins a comment.
 const FENCE: usize = 3;
 
 const FIRST_HIGH: u8 = Guideline::LAST_BYTE + 1;
@@ -62,13 +62,11 @@ fn better(accepts: &[u8; State::COUNT], best: Best, q: usize, r: usize, n: usize
     requires { (accepts.now ≡ acceptsOf) × (q < 35) }
     ensures { result ≡ better_of best q r n }
 {
-    if table::accepting(accepts, q) {
-        if best.len < n {
-            return Best { len: n, rule: r };
-        }
-        return best;
+    if table::accepting(accepts, q) && best.len < n {
+        Best { len: n, rule: r }
+    } else {
+        best
     }
-    best
 }
 
 // Where the rules start. Where no comment can end any more, the rule of comments is dead from the start.
@@ -86,32 +84,8 @@ fn begin(shut: bool) -> [usize; Rule::COUNT]
     ];
     if shut {
         states[Rule::COMMENT] = State::DEAD;
-        return states;
     }
     states
-}
-
-// The end of a comment, **/, stands at p.
-fn closes(text: &[u8], p: usize) -> bool
-    ensures { Closes text.now p → result ≡ true }
-{
-    let n = text.len();
-    if n <= p {
-        return false;
-    }
-    if n - p < FENCE {
-        return false;
-    }
-    if text[p] != b'*' {
-        return false;
-    }
-    if text[p + 1] != b'*' {
-        return false;
-    }
-    if text[p + 2] != b'/' {
-        return false;
-    }
-    true
 }
 
 // One past the last place where a comment can end; 0 where there is none. Found once, it settles every comment that is opened later:
@@ -119,12 +93,10 @@ fn closes(text: &[u8], p: usize) -> bool
 pub fn last_end(text: &[u8]) -> usize
     ensures { Marks text.now result }
 {
-    let mut p = text.len();
-    while 0 < p {
-        if closes(text, p - 1) {
-            return p;
+    for p in (0..text.len()).rev() {
+        if text[p..].starts_with(b"**/") {
+            return p + 1;
         }
-        p -= 1;
     }
     0
 }
@@ -133,13 +105,7 @@ pub fn last_end(text: &[u8]) -> usize
 fn hopeless(at: usize, last: usize) -> bool
     ensures { result ≡ true → last ≤ at + 3 }
 {
-    if last <= at {
-        return true;
-    }
-    if last - at <= FENCE {
-        return true;
-    }
-    false
+    last.saturating_sub(at) <= FENCE
 }
 
 // All rules go from byte to byte in step, up to the first byte that none of them can take.
@@ -151,26 +117,16 @@ fn walk(text: &[u8], at: usize, shut: bool) -> Best
     let accepts = table::accepts();
     let mut states = begin(shut);
     let mut best = Best { len: 0, rule: 0 };
-    let mut i = at;
-    'walk: while i < text.len() {
-        let k = kind(text[i]);
-        let n = i - at + 1;
-        let mut alive = 0usize;
-        let mut r = 0usize;
-        'rules: loop {
-            if r == Rule::COUNT {
-                if alive == State::DEAD {
-                    break 'walk;
-                }
-                break 'rules;
-            }
-            let q = table::next(&delta, states[r], k);
-            states[r] = q;
-            best = better(&accepts, best, q, r, n);
-            alive += q;
-            r += 1;
+    for (i, b) in text[at..].iter().enumerate() {
+        let k = kind(*b);
+        for (r, q) in states.iter_mut().enumerate() {
+            let next = table::next(&delta, *q, k);
+            *q = next;
+            best = better(&accepts, best, next, r, i + 1);
         }
-        i += 1;
+        if states == [State::DEAD; Rule::COUNT] {
+            break;
+        }
     }
     best
 }
@@ -180,6 +136,5 @@ pub fn longest(text: &[u8], at: usize, last: usize) -> Best
     requires { (at ≤ length text.now) × Marks text.now last }
     ensures { Settled text.now at result }
 {
-    let shut = hopeless(at, last);
-    walk(text, at, shut)
+    walk(text, at, hopeless(at, last))
 }

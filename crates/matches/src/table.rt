@@ -47,19 +47,15 @@ HHHHHHHHHAJHHHHHHHHH\
 // Which states have a whole match behind them.
 const ACCEPTS: [u8; State::COUNT] = *b"00000001010000010101100100001111110";
 
-fn wide(b: u8) -> usize
-    ensures { result ≡ b }
-{
-    b as usize
-}
-
 // Both tables are made once for a walk, and handed on.
+#[tactic(auto, unfolding(crate::specs::Machine::delta))]
 pub fn delta() -> [u8; State::ENTRIES]
     ensures { result ≡ deltaOf }
 {
     DELTA
 }
 
+#[tactic(auto, unfolding(crate::specs::Machine::accepts))]
 pub fn accepts() -> [u8; State::COUNT]
     ensures { result ≡ acceptsOf }
 {
@@ -67,14 +63,16 @@ pub fn accepts() -> [u8; State::COUNT]
 }
 
 // The state after a byte of a kind; 0 where the rule cannot take it.
+#[tactic(auto, using(crate::proofs::Cert::entry_large), unfolding(crate::specs::Machine::next_of))]
 pub fn next(delta: &[u8; State::ENTRIES], q: usize, k: usize) -> usize
     requires { (delta.now ≡ deltaOf) × (q < 35) × (k < 20) }
     ensures { result ≡ next_of q k }
 {
-    wide(delta[q * ByteKind::COUNT + k]) - ZERO
+    usize::from(delta[q * ByteKind::COUNT + k]) - ZERO
 }
 
 // The rule that stands at q has a whole match behind it.
+#[tactic(auto, unfolding(crate::specs::Machine::acc_of))]
 pub fn accepting(accepts: &[u8; State::COUNT], q: usize) -> bool
     requires { (accepts.now ≡ acceptsOf) × (q < 35) }
     ensures { result ≡ acc_of q }
