@@ -34,21 +34,15 @@ fn atom_kind(r: usize) -> u8
     }
 }
 
-fn narrow(k: usize) -> u8
-    requires { k < 256 }
-    ensures { result ≡ k }
-{
-    k as u8
-}
-
 // The terminal of a token without quotes that is the r-th of the known strings, or none of them.
 fn word_kind(r: usize) -> u8
     ensures { result ≡ word_kind r }
 {
     if r < Known::YES {
-        return narrow(r);
+        r as u8
+    } else {
+        atom_kind(r)
     }
-    atom_kind(r)
 }
 
 // The terminal of a reserved symbol, or of a bare atom, which may be a reserved word.
@@ -73,9 +67,10 @@ fn atom(text: &[u8], at: usize, len: usize) -> u8
     ensures { AtomIs text.now at len result }
 {
     if text[at] == b'\'' {
-        return name(text, at, len);
+        name(text, at, len)
+    } else {
+        word(text, at, len)
     }
-    word(text, at, len)
 }
 
 // The kind of the longest match.
@@ -84,8 +79,7 @@ fn kind(text: &[u8], at: usize, best: Best) -> u8
     ensures { Tells text.now at best.len result }
 {
     let len = best.len;
-    let rule = best.rule;
-    match rule {
+    match best.rule {
         Rule::SYMBOL => word(text, at, len),
         Rule::ATOM => atom(text, at, len),
         Rule::INTEGER => Terminal::INTEGER,
@@ -114,16 +108,17 @@ impl Cursor {
     pub fn new(text: &[u8]) -> Cursor
         ensures { (result.at ≡ 0) × Marks text.now result.last }
     {
-        let last = matches::last_end(text);
-        Cursor { at: 0, last: last }
+        Cursor {
+            at: 0,
+            last: matches::last_end(text),
+        }
     }
 
     pub fn token(self, text: &[u8]) -> Lexed
         requires { Marks text.now self.last }
         ensures { Answer text.now self result }
     {
-        let at = self.at;
-        let last = self.last;
+        let Cursor { at, last } = self;
         if text.len() <= at {
             return Lexed::Nothing;
         }
@@ -132,16 +127,11 @@ impl Cursor {
         if len == 0 {
             return Lexed::Nothing;
         }
-        Lexed::Got(
-            Token {
-                kind: kind(text, at, best),
-                start: at,
-                len: len,
-            },
-            Cursor {
-                at: at + len,
-                last: last,
-            },
-        )
+        let token = Token {
+            kind: kind(text, at, best),
+            start: at,
+            len,
+        };
+        Lexed::Got(token, Cursor { at: at + len, last })
     }
 }

@@ -1,7 +1,5 @@
--- `lexer::kind` meets its contract: each arm by what its rule tells.
-use native.Mathlib.Omega.{arith}
-use mathlib.Core.Path.{◌≡◌}
-use Prim.Native.Nat.{ℕ}
+-- `kind`: each arm by what its rule tells.
+use Rattle.std.proofs.Common.{◌≡◌, arith}
 use Rattle.lexer.proofs.Arms.{inside, tells_symbol, tells_atom, atom_long, tells_integer, tells_float, tells_string, tells_white, tells_comment}
 use Rattle.lexer.proofs.kind.Goals as goal
 
