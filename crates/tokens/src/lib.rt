@@ -29,27 +29,20 @@ fn early(text: &[u8]) -> Verdict
     ensures { Early text.now result }
 {
     let h = high(text);
-    if h < text.len() {
-        return Verdict::Broken(Refusal::TEXT, h);
+    if h < text.len() || Guideline::LIMIT < text.len() {
+        Verdict::Broken(Refusal::TEXT, h)
+    } else {
+        Verdict::Fine
     }
-    if Guideline::LIMIT < text.len() {
-        return Verdict::Broken(Refusal::TEXT, h);
-    }
-    Verdict::Fine
 }
 
 // The first byte over 127, or the text's length.
 fn high(text: &[u8]) -> usize
     ensures { FirstHigh text.now result }
 {
-    let mut i = 0usize;
-    while i < text.len() {
-        if Guideline::LAST_BYTE < text[i] {
-            return i;
-        }
-        i += 1;
-    }
-    i
+    text.iter()
+        .position(|b| Guideline::LAST_BYTE < *b)
+        .unwrap_or(text.len())
 }
 
 // How many brackets are open, and the place of the first one too many, or the text's length.
@@ -64,33 +57,23 @@ fn bracket(b: Open, kind: u8, place: usize, end: usize) -> Open
     requires { b.count < 4294967296 }
     ensures { result ≡ bracket_of b kind place end }
 {
-    let count = b.count;
-    let bad = b.bad;
+    let Open { count, bad } = b;
     match kind {
         Terminal::LEFT_PARENTHESIS | Terminal::LEFT_BRACKET => {
             if Brackets::LIMIT <= count {
-                if bad == end {
-                    return Open {
-                        count: count,
-                        bad: place,
-                    };
+                let bad = if bad == end { place } else { bad };
+                Open { count, bad }
+            } else {
+                Open {
+                    count: count + 1,
+                    bad,
                 }
-                return b;
-            }
-            Open {
-                count: count + 1,
-                bad: bad,
             }
         }
-        Terminal::RIGHT_PARENTHESIS | Terminal::RIGHT_BRACKET => {
-            if count == 0 {
-                return b;
-            }
-            Open {
-                count: count - 1,
-                bad: bad,
-            }
-        }
+        Terminal::RIGHT_PARENTHESIS | Terminal::RIGHT_BRACKET => Open {
+            count: count.saturating_sub(1),
+            bad,
+        },
         _ => b,
     }
 }
@@ -109,15 +92,13 @@ fn put(
     ensures places_after { places.new ≡ stored places.old n token.kind token.start }
     ensures lengths_after { lengths.new ≡ stored lengths.old n token.kind token.len }
 {
-    let kind = token.kind;
-    if Terminal::STRING < kind {
+    if Terminal::STRING < token.kind {
         return n;
     }
     if n < TokenList::LIMIT {
-        kinds[n] = kind;
+        kinds[n] = token.kind;
         places[n] = token.start;
         lengths[n] = token.len;
-        return n + 1;
     }
     n + 1
 }
@@ -138,23 +119,17 @@ fn fill(text: &[u8], kinds: &mut [u8], places: &mut [usize], lengths: &mut [usiz
 {
     let end = text.len();
     let mut cursor = Cursor::new(text);
-    let mut n = 0usize;
+    let mut n = 0;
     let mut b = Open { count: 0, bad: end };
-    loop {
-        match cursor.token(text) {
-            Lexed::Got(token, next) => {
-                n = put(kinds, places, lengths, n, token);
-                b = bracket(b, token.kind, token.start, end);
-                cursor = next;
-            }
-            Lexed::Nothing => {
-                return Stop {
-                    at: cursor.at,
-                    n: n,
-                    bad: b.bad,
-                };
-            }
-        }
+    while let Lexed::Got(token, next) = cursor.token(text) {
+        n = put(kinds, places, lengths, n, token);
+        b = bracket(b, token.kind, token.start, end);
+        cursor = next;
+    }
+    Stop {
+        at: cursor.at,
+        n,
+        bad: b.bad,
     }
 }
 
@@ -163,15 +138,14 @@ fn late(stop: Stop, end: usize) -> Verdict
     ensures { Late stop end result }
 {
     if stop.at < end {
-        return Verdict::Broken(Refusal::LEXICAL, stop.at);
+        Verdict::Broken(Refusal::LEXICAL, stop.at)
+    } else if stop.bad < end {
+        Verdict::Broken(Refusal::LIMIT, stop.bad)
+    } else if TokenList::LIMIT < stop.n {
+        Verdict::Broken(Refusal::LIMIT, end)
+    } else {
+        Verdict::Fine
     }
-    if stop.bad < end {
-        return Verdict::Broken(Refusal::LIMIT, stop.bad);
-    }
-    if TokenList::LIMIT < stop.n {
-        return Verdict::Broken(Refusal::LIMIT, end);
-    }
-    Verdict::Fine
 }
 
 // All three columns, set to zero.
@@ -189,16 +163,7 @@ fn clear(kinds: &mut [u8], places: &mut [usize], lengths: &mut [usize])
 fn room(kinds: usize, places: usize, lengths: usize) -> bool
     ensures { RoomIs kinds places lengths result }
 {
-    if kinds < TokenList::LIMIT {
-        return false;
-    }
-    if places < TokenList::LIMIT {
-        return false;
-    }
-    if lengths < TokenList::LIMIT {
-        return false;
-    }
-    true
+    TokenList::LIMIT <= kinds && TokenList::LIMIT <= places && TokenList::LIMIT <= lengths
 }
 
 // The tokens of a text, as below, in columns that are blank.
@@ -215,9 +180,7 @@ pub fn into_blank(
         return Read::Short;
     }
     match early(text) {
-        Verdict::Broken(number, place) => {
-            return Read::Refused(number, place);
-        }
+        Verdict::Broken(number, place) => return Read::Refused(number, place),
         Verdict::Fine => {}
     }
     let stop = fill(text, kinds, places, lengths);

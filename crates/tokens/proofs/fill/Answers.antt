@@ -1,7 +1,7 @@
--- `tokens::fill` meets its contract: before each turn the columns hold the tokens up to the cursor.
-use Prim.Native.Nat.{ℕ, ◌+◌, ◌-◌, ◌≤◌, ◌<◌}
+-- `fill`: before each turn the columns hold the tokens up to the cursor.
+use Prim.Native.Nat.{ℕ}
 use native.Mathlib.Omega.{arith}
-use mathlib.Core.Path.{◌≡◌, sym, subst}
+use mathlib.Core.Path.{sym, subst}
 use mathlib.Core.List.{List}
 use lib.ListN.{length}
 use Rattle.matches.specs.Walk.{Marks}
