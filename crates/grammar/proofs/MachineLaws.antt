@@ -1,20 +1,21 @@
 -- What a turn of the machine does to the stack of bytes is what `adv` does to the symbols that the bytes stand for.
-use Prim.Native.Nat.{ℕ, zero, suc, ◌<◌, ◌≤◌, ◌+◌, ◌-◌}
-use mathlib.Core.Path.{◌≡◌, refl, sym, ap, subst, ◌∙◌}
+use Prim.Native.Nat.{ℕ, ◌<◌, ◌≤◌, ◌+◌, ◌-◌}
+use mathlib.Core.Path.{◌≡◌, refl, sym, ap, ◌∙◌}
 use mathlib.Core.Bool.{Bool, true, false, cond, ◌&&◌}
-use mathlib.Core.Option.{Option, none, some}
-use mathlib.Core.Logic.{◌⊎◌, inl, inr, ⊎_elim}
+use mathlib.Core.Option.{Option}
+use mathlib.Core.Logic.{⊎_elim}
 use mathlib.Core.List.{List, [], ◌∷◌, ◌++◌, map}
 use native.Mathlib.Omega.{arith}
 use native.Mathlib.Numerals.{add-one}
-use lib.Dec.{eqb, ltb}
-use lib.ListN.{length, get_or, drop, set, length-set, drop_of_length-le}
-use lib.Seq.{drop-cons, drop-set-lt, get_or-set_same}
-use borrow.Author.Tests.{eq-eqb, ne_eqb, eqb-true, eqb-false}
-use Rattle.paper_expressions.proofs.Laws.Tests.{contra, and_l, and_r, two}
-use Rattle.paper_grammar.proofs.Laws.Ll.{Sym, T, N, Alt, ◌⇒◌, Next, stop, go, find, choose, adv, blank}
+use lib.Dec.{eqb}
+use borrow.Rule.Slice.PartMut.{put_mid}
+use lib.ListN.{length, get_or, take, drop, length-append, length-drop, drop_of_length-le}
+use lib.Seq.{drop-cons, drop-drop, length-take-le, drop-append_seam}
+use borrow.Author.Tests.{eq-eqb, ne_eqb, eqb-true}
+use Rattle.paper_expressions.proofs.Laws.Tests.{and_l, and_r, two}
+use Rattle.paper_grammar.proofs.Laws.Ll.{Sym, T, N, stop, go, choose, adv, blank}
 use Rattle.paper_grammar.proofs.Laws.Form.{G}
-use Rattle.grammar.specs.Tables.{sym_of, side, alt_of, side_of, choice_of}
+use Rattle.grammar.specs.Tables.{sym_of, side_of, choice_of}
 use Rattle.grammar.specs.Machine.{passed, past}
 use Rattle.grammar.proofs.TableLaws.{is_token, is_symbol, side_is, choice_none, choice_some}
 
@@ -27,15 +28,15 @@ module _ (k c : ℕ) where
   pub token_stays : c < 128 → false ≡ passed k (sym_of c)
   token_stays h = sym (ap (passed k) (is_token c h))
 
-  module _ (x a : ℕ) (h : 128 ≤ c) (e : x ≡ c - 128) (w : a ≡ choice_of x k) where
-    as_symbol : passed k (sym_of c) ≡ eqb a 0 && G.empty x
-    as_symbol = ap (passed k) (is_symbol c h ∙ ap N (sym e)) ∙ ap (λ (n : ℕ). eqb n 0 && G.empty x) (sym w)
+  module _ (x : ℕ) (h : 128 ≤ c) (e : x ≡ c - 128) where
+    pub as_symbol : passed k (sym_of c) ≡ eqb (choice_of x k) 0 && G.empty x
+    as_symbol = ap (passed k) (is_symbol c h ∙ ap N (sym e))
 
-    pub unless_chosen : (b : Bool) → a ≡ 0 → b ≡ G.empty x → b ≡ passed k (sym_of c)
-    unless_chosen b z m = m ∙ sym (as_symbol ∙ ap (λ (y : Bool). y && G.empty x) (eq-eqb a 0 z))
+    pub unless_chosen : choice_of x k ≡ 0 → G.empty x ≡ passed k (sym_of c)
+    unless_chosen z = sym (as_symbol ∙ ap (λ (y : Bool). y && G.empty x) (eq-eqb (choice_of x k) 0 z))
 
-    pub chosen_stays : (a ≡ 0 → ⊥) → false ≡ passed k (sym_of c)
-    chosen_stays z = sym (as_symbol ∙ ap (λ (y : Bool). y && G.empty x) (ne_eqb a 0 z))
+    pub chosen_stays : (a : ℕ) → choice_of x k ≡ a + 1 → false ≡ passed k (sym_of c)
+    chosen_stays a w = sym (as_symbol ∙ ap (λ (y : Bool). y && G.empty x) (ne_eqb (choice_of x k) 0 (λ z. omega arith)))
 
 module _ (st : List ℕ) (at : ℕ) where
   ended : length st ≤ at → syms at st ≡ []
@@ -115,41 +116,42 @@ module _ (st : List ℕ) (top at k : ℕ) (p : syms at st ≡ past k (syms top s
       pub another : (get_or st at 0 ≡ k → ⊥) → adv G (syms top st) k ≡ stop
       another e = turn ∙ ap (λ (q : List (Sym ℕ)). adv G q k) (top_token st at h l) ∙ ap (λ (b : Bool). cond b (go (syms (at + 1) st)) stop) (ne_eqb k (get_or st at 0) (λ z. e (sym z)))
 
-    module _ (x a : ℕ) (l : 128 ≤ get_or st at 0) (e : x ≡ get_or st at 0 - 128) (c : a ≡ choice_of x k) where
-      pub no_alternative : a ≡ 0 → adv G (syms top st) k ≡ stop
+    module _ (x : ℕ) (l : 128 ≤ get_or st at 0) (e : x ≡ get_or st at 0 - 128) where
+      pub no_alternative : choice_of x k ≡ 0 → adv G (syms top st) k ≡ stop
       no_alternative z =
           let q : past k (syms top st) ≡ N x ∷ syms (at + 1) st = sym p ∙ top_symbol st at h x l e in
           let f = stays k (syms top st) (syms (at + 1) st) (N x) q in
-          let z' = sym c ∙ z in
-          let m : G.empty x ≡ false = sym (ap (λ (b : Bool). b && G.empty x) (eq-eqb (choice_of x k) 0 z')) ∙ f in
+          let m : G.empty x ≡ false = sym (ap (λ (b : Bool). b && G.empty x) (eq-eqb (choice_of x k) 0 z)) ∙ f in
           turn ∙ ap (λ (q : List (Sym ℕ)). adv G q k) (top_symbol st at h x l e)
-          ∙ ap (λ (o : Option (List (Sym ℕ))). choose o (syms (at + 1) st) (cond (G.empty x) (adv G (syms (at + 1) st) k) stop)) (choice_none x k z')
+          ∙ ap (λ (o : Option (List (Sym ℕ))). choose o (syms (at + 1) st) (cond (G.empty x) (adv G (syms (at + 1) st) k) stop)) (choice_none x k z)
           ∙ ap (λ (b : Bool). cond b (adv G (syms (at + 1) st) k) stop) m
 
-      module _ (z : a ≡ 0 → ⊥) where
-        found : find k (G.alts x) ≡ some (side (alt_of (a - 1)))
-        found = (choice_some x k a (sym c) z).0
+      pub replaced : (a : ℕ) (out : List ℕ) (t : ℕ) → choice_of x k ≡ a + 1 → drop t out ≡ side_of a ++ drop (at + 1) st → adv G (syms top st) k ≡ go (syms t out)
+      replaced a out t c d =
+          turn ∙ ap (λ (q : List (Sym ℕ)). adv G q k) (top_symbol st at h x l e)
+          ∙ ap (λ (o : Option (List (Sym ℕ))). choose o (syms (at + 1) st) (cond (G.empty x) (adv G (syms (at + 1) st) k) stop)) (choice_some x k a c).0
+          ∙ ap go (sym (ap (map sym_of) d ∙ map_append (side_of a) (drop (at + 1) st) ∙ ap (λ (q : List (Sym ℕ)). q ++ syms (at + 1) st) (side_is a)))
 
-        pub in_table : a ≤ 210
-        in_table = (choice_some x k a (sym c) z).1
+-- the part of a stack from at up to top is written over
+module _ (st p ys : List ℕ) (top at : ℕ) (e : ys ≡ p) (n : at + length p ≡ top) (h : top ≤ length st) where
+  rest : drop (top - at) (drop at st) ≡ drop top st
+  rest = drop-drop (top - at) at st ∙ ap (λ (i : ℕ). drop i st) (let z : at + (top - at) ≡ top = omega arith in z)
 
-        pub replaced : (out : List ℕ) (t : ℕ) → drop t out ≡ side_of (a - 1) ++ drop (at + 1) st → adv G (syms top st) k ≡ go (syms t out)
-        replaced out t d =
-            turn ∙ ap (λ (q : List (Sym ℕ)). adv G q k) (top_symbol st at h x l e)
-            ∙ ap (λ (o : Option (List (Sym ℕ))). choose o (syms (at + 1) st) (cond (G.empty x) (adv G (syms (at + 1) st) k) stop)) found
-            ∙ ap go (sym (ap (map sym_of) d ∙ map_append (side_of (a - 1)) (drop (at + 1) st) ∙ ap (λ (q : List (Sym ℕ)). q ++ syms (at + 1) st) (side_is (a - 1))))
+  front : length (take at st) ≡ at
+  front = length-take-le at st (omega arith)
 
--- one byte more on the stack
-push_one : (p st r : List ℕ) (at j v : ℕ) → j < length p → at < length st → drop (suc at) st ≡ drop (suc j) p ++ r → v ≡ get_or p j 0 → drop at (set st at v) ≡ drop j p ++ r
-push_one p st r at j v lj la e w =
-    let le : length (set st at v) ≡ length st = length-set st at v in
-    drop-cons (set st at v) at 0 (omega arith)
-    ∙ ap (λ (x : ℕ). x ∷ drop (suc at) (set st at v)) (get_or-set_same st at v 0 la ∙ w)
-    ∙ ap (λ (l : List ℕ). get_or p j 0 ∷ l) (drop-set-lt (suc at) st at v (omega arith) ∙ e)
-    ∙ sym (ap (λ (l : List ℕ). l ++ r) (drop-cons p j 0 lj))
+  pub written : drop at (put_mid at (top - at) st ys) ≡ p ++ drop top st
+  written =
+      ap (λ (i : ℕ). drop i (put_mid at (top - at) st ys)) (sym front)
+      ∙ drop-append_seam (take at st) (ys ++ drop (top - at) (drop at st))
+      ∙ ap (λ (l : List ℕ). l ++ drop (top - at) (drop at st)) e ∙ ap (λ (l : List ℕ). p ++ l) rest
 
-pub push_more : (p st r : List ℕ) (at j v : ℕ) → 0 < j → j ≤ length p → 0 < at → at ≤ length st → drop at st ≡ drop j p ++ r → v ≡ get_or p (j - 1) 0 → drop (at - 1) (set st (at - 1) v) ≡ drop (j - 1) p ++ r
-push_more p st r at j v hj lj ha la e w =
-    let ej : j ≡ suc (j - 1) = omega arith in
-    let ea : at ≡ suc (at - 1) = omega arith in
-    push_one p st r (at - 1) (j - 1) v (omega arith) (omega arith) (sym (ap (λ (i : ℕ). drop i st) ea) ∙ e ∙ ap (λ (i : ℕ). drop i p ++ r) ej) w
+  pub written_length : length (put_mid at (top - at) st ys) ≡ length st
+  written_length =
+      let a = length-append (take at st) (ys ++ drop (top - at) (drop at st)) in
+      let b = length-append ys (drop (top - at) (drop at st)) in
+      let c = ap length e in
+      let d = ap length rest in
+      let f = length-drop top st in
+      let g = front in
+      omega arith

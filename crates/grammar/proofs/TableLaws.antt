@@ -1,16 +1,16 @@
 -- A byte of the tables is what Form has there: each table is made of Form's lists, so one law about such lists says it of every entry.
 use Prim.Native.Nat.{ℕ, zero, suc, ◌<◌, ◌≤◌, ◌+◌, ◌-◌, ◌*◌}
 use mathlib.Core.Path.{◌≡◌, refl, sym, ap, subst, ◌∙◌}
-use mathlib.Core.Bool.{Bool, true, false, cond, ◌&&◌}
-use mathlib.Core.Option.{Option, none, some}
-use mathlib.Core.Logic.{◌⊎◌, inl, inr, ⊎_elim}
+use mathlib.Core.Bool.{Bool, true, false, cond}
+use mathlib.Core.Option.{none, some}
+use mathlib.Core.Logic.{⊎_elim}
 use mathlib.Core.List.{List, [], ◌∷◌, ◌++◌, map}
 use native.Mathlib.Omega.{arith}
 use native.Mathlib.Nat.{min-le_left, not-suc-le-zero, le_of_suc-le-suc}
 use native.Mathlib.Numerals.{add-one}
 use lib.Dec.{eqb, ltb, leb}
-use lib.ListN.{length, get_or, take, drop, length-append, length-take, drop_of_length-le, length-map, get_or-append, get_or-eq_default, get_or-map}
-use lib.Seq.{slice, slice-cons, take-append_seam, take-append-add, drop-append-add, get_or-append-add, get_or-take, get_or-drop}
+use lib.ListN.{length, get_or, take, drop, length-append, length-drop, length-take, drop_of_length-le, length-map, get_or-append, get_or-eq_default}
+use lib.Seq.{ext_get_or, length-take-le, slice, slice-cons, take-append_seam, take-append-add, drop-append-add, get_or-append-add, get_or-take, get_or-drop}
 use borrow.Author.Tests.{eq-eqb, ne_eqb, ltb-true, ltb-false, leb-true, le-ltb, lt-ltb}
 use Rattle.paper_expressions.proofs.Laws.Tests.{and_l, and_r, two, every}
 use Rattle.paper_grammar.proofs.Laws.Ll.{Sym, T, N, Alt, ◌⇒◌, find}
@@ -57,7 +57,7 @@ first_is a = of (alt_of a)
     of : (x : Alt ℕ) → get_or (record_of x) 0 0 ≡ first x
     of (k ⇒ β) = refl
 
-pub width_is : (a : ℕ) → byte_of a 1 ≡ length (side (alt_of a))
+width_is : (a : ℕ) → byte_of a 1 ≡ length (side (alt_of a))
 width_is a = of (alt_of a)
   where
     of : (x : Alt ℕ) → get_or (record_of x) 1 0 ≡ length (side x)
@@ -81,17 +81,11 @@ symbol_is a j h = of (alt_of a) h (let s = short a in omega arith)
         let e : j + 2 ≡ suc (suc j) = omega arith in
         ap (λ (i : ℕ). get_or (record_of (k ⇒ β)) i 0) e ∙ cells_at 8 β j m l
 
-pub side_length : (a : ℕ) → length (side_of a) ≡ length (side (alt_of a))
+side_length : (a : ℕ) → length (side_of a) ≡ length (side (alt_of a))
 side_length a = length-map (side (alt_of a)) code
 
 pub side_short : (a : ℕ) → length (side_of a) ≤ 8
 side_short a = let e = side_length a in let s = short a in omega arith
-
-pub symbol_before : (a j : ℕ) → 0 < j → j ≤ length (side_of a) → byte_of a (j + 1) ≡ get_or (side_of a) (j - 1) 0
-symbol_before a j z h =
-    let e = side_length a in
-    let m : j + 1 ≡ j - 1 + 2 = omega arith in
-    ap (byte_of a) m ∙ symbol_is a (j - 1) (omega arith)
 
 -- a byte and its symbol
 abbrev fits : Sym ℕ → Bool
@@ -184,9 +178,9 @@ module _ (x : ℕ) (h : x < 48) where
     pub row_bounds : (f ≤ t) × (t ≤ 210)
     row_bounds = let e = row_ends in let w = row_within in (omega arith, omega arith)
 
-    pub row_choice : (k r : ℕ) → r ≡ seek_in k f (slice f t alternatives) → r ≡ choice_of x k
-    row_choice k r e =
-        e ∙ ap (λ (i : ℕ). seek_in k i (slice i t alternatives)) ef ∙ ap (λ (i : ℕ). seek_in k (get_or rows_table x 0) (slice (get_or rows_table x 0) i alternatives)) et ∙ ap (seek_in k (get_or rows_table x 0)) row_part
+    pub row_choice : (k : ℕ) → seek_in k f (slice f t alternatives) ≡ choice_of x k
+    row_choice k =
+        ap (λ (i : ℕ). seek_in k i (slice i t alternatives)) ef ∙ ap (λ (i : ℕ). seek_in k (get_or rows_table x 0) (slice (get_or rows_table x 0) i alternatives)) et ∙ ap (seek_in k (get_or rows_table x 0)) row_part
 
 -- the alternative that was found is the one that the machine of Ll finds
 seek_none : (k a : ℕ) (l : List (Alt ℕ)) → seek_in k a l ≡ 0 → find k l ≡ none
@@ -214,8 +208,8 @@ seek_some k a r ((j ⇒ β) ∷ l) g e z = ⊎_elim
 pub choice_none : (x k : ℕ) → choice_of x k ≡ 0 → find k (G.alts x) ≡ none
 choice_none x k e = seek_none k (get_or rows_table x 0) (G.alts x) e
 
-pub choice_some : (x k r : ℕ) → choice_of x k ≡ r → (r ≡ 0 → ⊥) → (find k (G.alts x) ≡ some (side (alt_of (r - 1)))) × (r ≤ 210)
-choice_some x k r e z = ⊎_elim
+chosen : (x k r : ℕ) → choice_of x k ≡ r → (r ≡ 0 → ⊥) → (find k (G.alts x) ≡ some (side (alt_of (r - 1)))) × (r ≤ 210)
+chosen x k r e z = ⊎_elim
     (λ (t : ltb x 48 ≡ true).
     let h = ltb-true x 48 t in
     let lo = get_or rows_table x 0 in
@@ -227,6 +221,13 @@ choice_some x k r e z = ⊎_elim
     (q.0, let b = q.1 in omega arith))
     (λ (t : ltb x 48 ≡ false). absurd (z (sym e ∙ ap (seek_in k (get_or rows_table x 0)) (row_none x (ltb-false x 48 t)))))
     (two (ltb x 48))
+
+pub choice_some : (x k a : ℕ) → choice_of x k ≡ a + 1 → (find k (G.alts x) ≡ some (side (alt_of a))) × (a < 210)
+choice_some x k a e =
+    let q = chosen x k (a + 1) e (λ z. omega arith) in
+    let b = q.1 in
+    let z : a + 1 - 1 ≡ a = omega arith in
+    (q.0 ∙ ap (λ (i : ℕ). some (side (alt_of i))) z, omega arith)
 
 pub no_choice : (x k : ℕ) → 48 ≤ x → choice_of x k ≡ 0
 no_choice x k h = ap (seek_in k (get_or rows_table x 0)) (row_none x h)
@@ -297,3 +298,27 @@ alternative_at a j h k =
     ap (λ (n : ℕ). get_or table n 0) m ∙ behind (48 + (a * 10 + j))
     ∙ ap (λ (n : ℕ). get_or (empty_table ++ alternatives_table) (n + (a * 10 + j)) 0) (sym empty_long)
     ∙ get_or-append-add empty_table alternatives_table (a * 10 + j) 0 ∙ byte_at a j h k
+
+table_long : length table ≡ 2197
+unfolding rows blanks alternatives alternatives_table rows_table empty_table table
+table_long = refl
+
+-- the symbols that follow the first token of an alternative stand behind their number
+pub side_many : (a n : ℕ) → n ≡ byte_of a 1 → n ≡ length (side_of a)
+side_many a n e = e ∙ width_is a ∙ sym (side_length a)
+
+pub side_within : (a n : ℕ) → a < 210 → n ≡ byte_of a 1 → 97 + a * 10 + 2 + n ≤ length table
+side_within a n h e = let w = side_many a n e in let s = side_short a in let t = table_long in omega arith
+
+pub side_at : (a n : ℕ) → a < 210 → n ≡ byte_of a 1 → take n (drop (97 + a * 10 + 2) table) ≡ side_of a
+side_at a n h e =
+    let w = side_many a n e in
+    let s = side_short a in
+    let i = side_within a n h e in
+    let l : length (take n (drop (97 + a * 10 + 2) table)) ≡ n = length-take-le n (drop (97 + a * 10 + 2) table) (omega (arith, length-drop (97 + a * 10 + 2) table)) in
+    ext_get_or 0 (take n (drop (97 + a * 10 + 2) table)) (side_of a) (l ∙ w)
+    (λ k b.
+    let c : k < n = omega arith in
+    let m : 97 + a * 10 + 2 + k ≡ 97 + a * 10 + (k + 2) = omega arith in
+    get_or-take n (drop (97 + a * 10 + 2) table) k 0 c ∙ get_or-drop (97 + a * 10 + 2) table k 0 ∙ ap (λ (j : ℕ). get_or table j 0) m
+    ∙ alternative_at a (k + 2) h (omega arith) ∙ symbol_is a k (let z = side_length a in omega arith))

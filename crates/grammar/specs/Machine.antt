@@ -1,5 +1,5 @@
 -- What the parts of the machine do, in the terms of Ll. Definitions only.
-use Rattle.std.specs.Prelude.{ℕ, ◌+◌, ◌≤◌, ◌<◌, ◌≡◌, Bool, true, false, cond, ◌&&◌, List, [], ◌∷◌, map, length, drop, eqb}
+use Rattle.std.specs.Prelude.{ℕ, ◌+◌, ◌≤◌, ◌≡◌, Bool, false, cond, ◌&&◌, List, [], ◌∷◌, map, length, drop, eqb}
 use Rattle.paper_grammar.proofs.Laws.Ll.{Sym, T, N, stop, go, accept, refuse, adv, run}
 use Rattle.paper_grammar.proofs.Laws.Form.{G}
 use Rattle.grammar.specs.declared.Turn.{Turn}

@@ -1,5 +1,5 @@
 -- What a reply says: accepted exactly the sentences, refused exactly at the first token that no sentence can have; two replies to the same tokens are equal.
-use Rattle.std.specs.Prelude.{ℕ, ◌≤◌, ◌<◌, ◌≡◌, refl, List, length}
+use Rattle.std.specs.Prelude.{ℕ, ◌≡◌, refl, List}
 use Rattle.std.proofs.Common.{ap, arith}
 use Rattle.paper_grammar.proofs.Laws.Same.{Starts, at_process, at_expression, first_bad_one}
 use Rattle.grammar.specs.declared.Start.{Start}

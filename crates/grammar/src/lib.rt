@@ -2,7 +2,7 @@
 // It goes by one token at a time, with a stack of the symbols that are still to come; the stack grows down from the array's end.
 #![tactic(auto)]
 
-ghost use Rattle.std.specs.Prelude.{◌≡◌, map, ◌++◌, ◌+◌, ◌≤◌, ◌<◌, length, drop};
+ghost use Rattle.std.specs.Prelude.{◌≡◌, MatchOption, map, ◌++◌, ◌+◌, ◌≤◌, ◌<◌, length, drop};
 ghost use Rattle.std.proofs.Math.Seq.{slice};
 ghost use Rattle.paper_grammar.proofs.Laws.Ll.{Sym, blank};
 ghost use Rattle.paper_grammar.proofs.Laws.Form.{G};
@@ -54,12 +54,6 @@ enum Turn {
     Stuck,
 }
 
-fn wide(b: u8) -> usize
-    ensures { result ≡ b }
-{
-    b as usize
-}
-
 // The byte j of the alternative a.
 fn byte(t: &[u8; Layout::BYTES], a: usize, j: usize) -> u8
     requires a_bound { (a < 210) × (j < 10) }
@@ -69,44 +63,37 @@ fn byte(t: &[u8; Layout::BYTES], a: usize, j: usize) -> u8
     t[Layout::ALTERNATIVES + a * Layout::WIDTH + j]
 }
 
-// The first of the alternatives from `from` up to `to` that begins with k, counted from 1; 0 where none does.
-fn seek(t: &[u8; Layout::BYTES], k: u8, from: usize, to: usize) -> usize
+// The first of the alternatives from `from` up to `to` that begins with k.
+fn seek(t: &[u8; Layout::BYTES], k: u8, from: usize, to: usize) -> Option<usize>
     requires from_le_to { (from ≤ to) × (to ≤ 210) }
     requires t_value { t.now ≡ table }
-    ensures { result ≡ seek_in k from (slice from to alternatives) }
+    ensures { MatchOption result (seek_in k from (slice from to alternatives) ≡ 0) (λ a. seek_in k from (slice from to alternatives) ≡ a + 1) }
 {
-    let mut a = from;
-    while a < to {
+    for a in from..to {
         if byte(t, a, 0) == k {
-            return a + 1;
+            return Some(a);
         }
-        a += 1;
     }
-    0
+    None
 }
 
-// The alternative of the symbol x that begins with k, counted over all from 1; 0 where there is none.
-fn choice(t: &[u8; Layout::BYTES], x: usize, k: u8) -> usize
+// The alternative of the symbol x that begins with k, counted over all.
+fn choice(t: &[u8; Layout::BYTES], x: usize, k: u8) -> Option<usize>
     requires { t.now ≡ table }
-    ensures { result ≡ choice_of x k }
+    ensures { MatchOption result (choice_of x k ≡ 0) (λ a. choice_of x k ≡ a + 1) }
 {
     if x < Layout::SYMBOLS {
-        let from = wide(t[x]);
-        let to = wide(t[x + 1]);
-        return seek(t, k, from, to);
+        seek(t, k, usize::from(t[x]), usize::from(t[x + 1]))
+    } else {
+        None
     }
-    0
 }
 
 fn may_be_empty(t: &[u8; Layout::BYTES], x: usize) -> bool
     requires { t.now ≡ table }
     ensures { result ≡ G.empty x }
 {
-    if x < Layout::SYMBOLS {
-        t[Layout::EMPTY + x] == b'1'
-    } else {
-        true
-    }
+    Layout::SYMBOLS <= x || t[Layout::EMPTY + x] == b'1'
 }
 
 // Whether c is passed over at k: a symbol that may be empty, of which no alternative begins with k.
@@ -117,11 +104,8 @@ fn passes(t: &[u8; Layout::BYTES], c: u8, k: u8) -> bool
     if c < SYMBOL {
         return false;
     }
-    let x = wide(c) - FIRST;
-    if choice(t, x, k) == 0 {
-        return may_be_empty(t, x);
-    }
-    false
+    let x = usize::from(c) - FIRST;
+    choice(t, x, k).is_none() && may_be_empty(t, x)
 }
 
 // The top once those are off the stack that are passed over at k.
@@ -130,14 +114,12 @@ fn skip(t: &[u8; Layout::BYTES], stack: &[u8; STACK], top: usize, k: u8) -> usiz
     requires t_value { t.now ≡ table }
     ensures { ((top ≤ result) × (result ≤ 32768)) × (map sym_of (drop result stack.now) ≡ past k (map sym_of (drop top stack.now))) }
 {
-    let mut at = top;
-    while at < STACK {
+    for at in top..STACK {
         if !passes(t, stack[at], k) {
             return at;
         }
-        at += 1;
     }
-    at
+    STACK
 }
 
 // Whether all that is still to come may be empty.
@@ -146,16 +128,11 @@ fn all_may_be_empty(t: &[u8; Layout::BYTES], stack: &[u8; STACK], top: usize) ->
     requires t_value { t.now ≡ table }
     ensures { result ≡ blank G (map sym_of (drop top stack.now)) }
 {
-    let mut at = top;
-    while at < STACK {
+    for at in top..STACK {
         let c = stack[at];
-        if c < SYMBOL {
+        if c < SYMBOL || !may_be_empty(t, usize::from(c) - FIRST) {
             return false;
         }
-        if !may_be_empty(t, wide(c) - FIRST) {
-            return false;
-        }
-        at += 1;
     }
     true
 }
@@ -166,13 +143,11 @@ fn push(t: &[u8; Layout::BYTES], stack: &mut [u8; STACK], top: usize, a: usize) 
     requires t_value { t.now ≡ table }
     ensures { (length stack.new ≡ 32768) × (top ≤ result + 8) × (result ≤ top) × (drop result stack.new ≡ side_of a ++ drop top stack.old) }
 {
-    let mut at = top;
-    let mut j = wide(byte(t, a, 1));
-    while 0 < j {
-        at -= 1;
-        stack[at] = byte(t, a, j + 1);
-        j -= 1;
-    }
+    let n = usize::from(byte(t, a, 1));
+    let from = Layout::ALTERNATIVES + a * Layout::WIDTH + 2;
+    let side = &t[from..from + n];
+    let at = top - n;
+    stack[at..top].copy_from_slice(side);
     at
 }
 
@@ -188,16 +163,16 @@ fn step(t: &[u8; Layout::BYTES], stack: &mut [u8; STACK], top: usize, k: u8) -> 
     }
     let c = stack[at];
     if c < SYMBOL {
-        if c == k {
-            return Turn::On(at + 1);
-        }
-        return Turn::Stuck;
+        return if c == k {
+            Turn::On(at + 1)
+        } else {
+            Turn::Stuck
+        };
     }
-    let a = choice(t, wide(c) - FIRST, k);
-    if a == 0 {
-        return Turn::Stuck;
+    match choice(t, usize::from(c) - FIRST, k) {
+        Some(a) => Turn::On(push(t, stack, at + 1, a)),
+        None => Turn::Stuck,
     }
-    Turn::On(push(t, stack, at + 1, a - 1))
 }
 
 // Takes the tokens one after the other.
@@ -207,18 +182,17 @@ fn walk(t: &[u8; Layout::BYTES], kinds: &[u8], stack: &mut [u8; STACK]) -> Answe
     ensures { Ends (map sym_of (drop 32767 stack.old)) kinds.now result }
 {
     let mut top = BOTTOM;
-    let mut i = 0;
-    while i < kinds.len() {
-        let Turn::On(next) = step(t, stack, top, kinds[i]) else {
+    for (i, k) in kinds.iter().enumerate() {
+        let Turn::On(next) = step(t, stack, top, *k) else {
             return Answer::Refused(i);
         };
         top = next;
-        i += 1;
     }
     if all_may_be_empty(t, stack, top) {
-        return Answer::Accepted;
+        Answer::Accepted
+    } else {
+        Answer::Refused(kinds.len())
     }
-    Answer::Refused(i)
 }
 
 // The start symbol as it stands on the stack.

@@ -1,71 +1,51 @@
 -- `step` is `adv`: what is passed over is off the stack, and then the top decides, test by test.
-use native.Mathlib.Omega.{arith}
-use Prim.Native.Nat.{ℕ, ◌≤◌, ◌<◌, ◌-◌}
-use mathlib.Core.Path.{ap}
-use lib.ListN.{length}
-use Rattle.grammar.proofs.MachineLaws.{none_left, taken, another, no_alternative, in_table, replaced}
+use Rattle.std.proofs.Common.{ℕ, ◌-◌, arith, ap}
+use Rattle.grammar.proofs.TableLaws.{choice_some}
+use Rattle.grammar.proofs.MachineLaws.{none_left, taken, another, no_alternative, replaced}
 use Rattle.grammar.proofs.step.Goals as goal
 
 pub returns-then-at-eq-STACK : goal.returns-then-at-eq-STACK
 returns-then-at-eq-STACK c =
     let a = c.args in
-    let s = c.skip-at in
     let n = c.requires.stack_len.0 in
-    let l : length a.stack.now ≤ s.result = omega arith in
-    none_left a.stack.now a.top s.result a.k s.ensures.1 l
+    none_left a.stack.now a.top c.skip-at.result a.k c.skip-at.ensures.1 (omega arith)
 
 pub returns-then-c-k : goal.returns-then-c-k
 returns-then-c-k c =
     let a = c.args in
-    let s = c.skip-at in
     let n = c.requires.stack_len.0 in
-    let b = s.ensures.0 in
-    let l : s.result < length a.stack.now = omega arith in
-    ((n, omega arith, omega arith), taken a.stack.now a.top s.result a.k s.ensures.1 l c.if-c-lt-SYMBOL.true c.if-c-k.true)
+    let b = c.skip-at.ensures.0 in
+    ((n, omega arith, omega arith), taken a.stack.now a.top c.skip-at.result a.k c.skip-at.ensures.1 (omega arith) c.if-c-lt-SYMBOL.true c.if-c-k.true)
 
-pub returns-then-c-lt-SYMBOL : goal.returns-then-c-lt-SYMBOL
-returns-then-c-lt-SYMBOL c =
+pub returns-else-c-k : goal.returns-else-c-k
+returns-else-c-k c =
     let a = c.args in
-    let s = c.skip-at in
     let n = c.requires.stack_len.0 in
-    let b = s.ensures.0 in
-    let l : s.result < length a.stack.now = omega arith in
-    another a.stack.now a.top s.result a.k s.ensures.1 l c.if-c-lt-SYMBOL.true c.if-c-k.false
+    let b = c.skip-at.ensures.0 in
+    another a.stack.now a.top c.skip-at.result a.k c.skip-at.ensures.1 (omega arith) c.if-c-lt-SYMBOL.true c.if-c-k.false
 
-pub returns-then-a-eq0 : goal.returns-then-a-eq0
-returns-then-a-eq0 c =
+pub returns-in-None : goal.returns-in-None
+returns-in-None c =
     let a = c.args in
-    let s = c.skip-at in
     let n = c.requires.stack_len.0 in
-    let b = s.ensures.0 in
-    let l : s.result < length a.stack.now = omega arith in
-    no_alternative a.stack.now a.top s.result a.k s.ensures.1 l (c.wide.result - 128) c.choice-a.result c.if-c-lt-SYMBOL.false (ap (λ (x : ℕ). x - 128) c.wide.ensures) c.choice-a.ensures c.if-a-eq0.true
+    let b = c.skip-at.ensures.0 in
+    no_alternative a.stack.now a.top c.skip-at.result a.k c.skip-at.ensures.1 (omega arith) (c.from.result - 128) c.if-c-lt-SYMBOL.false (ap (λ (x : ℕ). x - 128) c.from.ensures) c.in-None.ensures
 
 pub push-requires-clause-stack_len : goal.push-requires-clause-stack_len
 push-requires-clause-stack_len c =
-    let a = c.args in
-    let s = c.skip-at in
-    let n = c.requires.stack_len.0 in
-    let t = c.requires.stack_len.1 in
-    let b = s.ensures.0 in
-    let z = c.if-a-eq0.false in
-    let l : s.result < length a.stack.now = omega arith in
-    let i = in_table a.stack.now a.top s.result a.k s.ensures.1 l (c.wide.result - 128) c.choice-a.result c.if-c-lt-SYMBOL.false (ap (λ (x : ℕ). x - 128) c.wide.ensures) c.choice-a.ensures z in
-    (n, omega arith, omega arith, omega arith)
+    let b = c.skip-at.ensures.0 in
+    let l = c.requires.stack_len.1 in
+    (c.requires.stack_len.0, (choice_some (c.from.result - 128) c.args.k c.in-Some.a c.in-Some.ensures).1, omega arith, omega arith)
 
-pub returns : goal.returns
-returns c =
+pub returns-in-Some : goal.returns-in-Some
+returns-in-Some c =
     let a = c.args in
-    let s = c.skip-at in
     let n = c.requires.stack_len.0 in
-    let b = s.ensures.0 in
-    let z = c.if-a-eq0.false in
-    let p = c.push in
-    let g = c.if-c-lt-SYMBOL.false in
-    let l : s.result < length a.stack.now = omega arith in
-    let p1 = p.ensures.1 in
-    let p2 = p.ensures.2 in
-    let e = ap (λ (x : ℕ). x - 128) c.wide.ensures in (
-      (p.ensures.0, omega arith, omega arith),
-      replaced a.stack.now a.top s.result a.k s.ensures.1 l (c.wide.result - 128) c.choice-a.result g e c.choice-a.ensures z _ p.result p.ensures.3,
+    let b = c.skip-at.ensures.0 in
+    let p = c.push.ensures in
+    let p1 = p.1 in
+    let p2 = p.2 in (
+      (p.0, omega arith, omega arith),
+      replaced a.stack.now a.top c.skip-at.result a.k c.skip-at.ensures.1 (omega arith) (c.from.result - 128) c.if-c-lt-SYMBOL.false (ap (λ (x : ℕ). x - 128) c.from.ensures)
+          c.in-Some.a _ c.push.result c.in-Some.ensures p.3,
     )
