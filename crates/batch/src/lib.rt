@@ -18,26 +18,11 @@ pub enum Next {
     Unread,
 }
 
-// Two bytes, the high one first.
-fn pair(high: u8, low: u8) -> usize
-    ensures { result < 65536 }
-{
-    high as usize * 256 + low as usize
-}
-
-// The length that four bytes tell.
-fn length_of(head: [u8; 4]) -> usize {
-    pair(head[0], head[1]) * 65_536 + pair(head[2], head[3])
-}
-
 // Reads n bytes, where the input and the buffer have so many.
 fn read_text(text: &mut [u8], n: usize) -> Next
     ensures { Held (length text.new) result }
 {
-    if text.len() < n {
-        return Next::Unread;
-    }
-    if io::read_full(STDIN_FILENO, &mut text[..n]) < n {
+    if text.len() < n || io::read_full(STDIN_FILENO, &mut text[..n]) < n {
         return Next::Unread;
     }
     Next::Text(n)
@@ -48,15 +33,11 @@ pub fn next_text(text: &mut [u8]) -> Next
     ensures { Held (length text.new) result }
 {
     let mut head = [0u8; 4];
-    let got = io::read_full(STDIN_FILENO, &mut head);
-    if got == 0 {
-        return Next::Nothing;
+    match io::read_full(STDIN_FILENO, &mut head) {
+        0 => Next::Nothing,
+        4 => read_text(text, u32::from_be_bytes(head) as usize),
+        _ => Next::Unread,
     }
-    if got < 4 {
-        return Next::Unread;
-    }
-    let n = length_of(head);
-    read_text(text, n)
 }
 
 // Says that a text could not be read, and that no other is.
@@ -70,10 +51,27 @@ pub fn unread() -> bool
     false
 }
 
+// Hands on each text of the batch, from the front of the buffer, until none is left, one cannot be read, or `answer` says that no other is wanted.
+// A proved loop has to end, so it has a number of turns that no batch uses up.
+pub fn answer_each<F: FnMut(&[u8]) -> bool>(text: &mut [u8], mut answer: F)
+    requires { F.IsAlwaysCallable answer }
+{
+    for _ in 0..u64::MAX {
+        let more = match next_text(text) {
+            Next::Text(n) => answer(&text[..n]),
+            Next::Nothing => false,
+            Next::Unread => unread(),
+        };
+        if !more {
+            return;
+        }
+    }
+}
+
 // The line of a refused text.
 pub fn write_refused(number: u8, place: usize) {
     io::write_all(STDOUT_FILENO, b"refused ");
-    io::print_decimal(STDOUT_FILENO, number as u64);
+    io::print_decimal(STDOUT_FILENO, u64::from(number));
     io::write_all(STDOUT_FILENO, b" ");
     io::print_decimal(STDOUT_FILENO, place as u64);
     io::write_all(STDOUT_FILENO, b"\n");
