@@ -1,5 +1,5 @@
 -- A search of the list of tasks, or of data items, finds the number of the first row of that name: the list has the rows in their order.
-use Rattle.std.specs.Prelude.{ℕ, zero, suc, ◌+◌, ◌≤◌, ◌<◌, ◌≡◌, refl, Bool, true, false, cond, ◌&&◌, ◌⊎◌, List, eqb, ltb, get_or}
+use Rattle.std.specs.Prelude.{ℕ, zero, suc, ◌+◌, ◌≤◌, ◌<◌, ◌≡◌, refl, Bool, true, false, cond, ◌&&◌, List, ltb, get_or}
 use Rattle.std.proofs.Common.{sym, ap, subst, ◌∙◌, ⊎_elim, arith, ltb-true, ltb-false, eq-eqb, ne_eqb}
 use Rattle.std.proofs.Math.Decide.{dec_lt}
 use Rattle.paper_expressions.proofs.Laws.Tests.{contra, two, both, and_l, and_r}
@@ -8,7 +8,7 @@ use Rattle.parts.specs.Texts.{text_at_fn}
 use Rattle.row_names.specs.Sheet.{task_kind}
 use Rattle.row_tests.specs.Table.{cell_of, kind_of}
 use Rattle.name_tests.specs.Lists.{tally, matched, Lists, entry, index, tally_rise}
-use Rattle.plan.specs.Writes.{one_if, counted, first_that, Outline, outline, task_row, task_named, child}
+use Rattle.plan.specs.Writes.{one_if, counted, first_that, outline, task_row, task_named, child}
 
 -- ---- counting, and the first that passes
 

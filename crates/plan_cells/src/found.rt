@@ -18,12 +18,10 @@ fn is_found(rows: &[u32], bytes: &[u8], list: &[u32], folded: bool, h: usize, k:
 pub fn find(rows: &[u32], bytes: &[u8], list: &[u32], m: usize, folded: bool, h: usize) -> usize
     ensures { Finds rows.now bytes.now list.now m folded h result }
 {
-    let mut k = 0;
-    while k < m {
+    for k in 0..m {
         if is_found(rows, bytes, list, folded, h, k) {
             return k;
         }
-        k += 1;
     }
     m
 }
@@ -33,17 +31,15 @@ pub fn child(rows: &[u32], bytes: &[u8], tasks: &[u32], m: usize, k: usize, last
     ensures { Child rows.now bytes.now tasks.now m k last result }
 {
     if kind(rows, k) == Kind::COMPONENT {
-        return find(rows, bytes, tasks, m, false, handle(rows, k));
+        find(rows, bytes, tasks, m, false, handle(rows, k))
+    } else {
+        last
     }
-    last
 }
 
 // The row of the task `c` of `m`, or the end of the rows.
 pub fn row(tasks: &[u32], m: usize, n: usize, c: usize) -> usize
     ensures { Row tasks.now m n c result }
 {
-    if c < m {
-        return number(tasks, c);
-    }
-    n
+    if c < m { number(tasks, c) } else { n }
 }

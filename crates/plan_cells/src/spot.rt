@@ -21,44 +21,11 @@ pub struct Spot {
     pub child: usize,
 }
 
-fn is_item(k: usize) -> bool
-    ensures { result ≡ is_data k }
-{
-    k == Kind::DATA
-}
-
-fn is_source(k: usize) -> bool
-    ensures { result ≡ is_source k }
-{
-    k == Kind::SOURCE
-}
-
-fn is_assignment(k: usize) -> bool
-    ensures { result ≡ is_assignment k }
-{
-    k == Kind::EQUALS
-}
-
 // One more, if the row counts.
 fn tick(x: usize, counts: bool) -> usize
     ensures { x < 65536 → result ≡ x + one_if counts }
 {
-    if !counts {
-        return x;
-    }
-    if x < ROWS {
-        return x + 1;
-    }
-    x
-}
-
-fn choose(b: bool, x: usize, y: usize) -> usize
-    ensures { result ≡ cond b x y }
-{
-    if b {
-        return x;
-    }
-    y
+    if counts && x < ROWS { x + 1 } else { x }
 }
 
 // Behind a row of the kind `k`, where the last component names `child`.
@@ -68,11 +35,11 @@ pub fn passed(at: Spot, k: usize, child: usize) -> Spot
     let t = is_task(k);
     Spot {
         tasks: tick(at.tasks, t),
-        items: tick(at.items, is_item(k)),
-        sources: tick(at.sources, is_source(k)),
-        assignments: tick(at.assignments, is_assignment(k)),
-        sourced: choose(t, at.sources, at.sourced),
-        assigned: choose(t, at.assignments, at.assigned),
-        child: child,
+        items: tick(at.items, k == Kind::DATA),
+        sources: tick(at.sources, k == Kind::SOURCE),
+        assignments: tick(at.assignments, k == Kind::EQUALS),
+        sourced: if t { at.sources } else { at.sourced },
+        assigned: if t { at.assignments } else { at.assigned },
+        child,
     }
 }
