@@ -1,14 +1,13 @@
 -- The whole of filling: the lists, the rows, the order and who waits, one behind the other.
-use Rattle.std.specs.Prelude.{ℕ, ◌+◌, ◌≤◌, ◌<◌, ◌≡◌, refl, Bool, true, false, List, length, get_or, replicate}
-use Rattle.std.proofs.Common.{sym, ap, subst, ◌∙◌, arith}
+use Rattle.std.specs.Prelude.{ℕ, ◌+◌, ◌≤◌, ◌<◌, ◌≡◌, Bool, true, false, List, length, replicate}
+use Rattle.std.proofs.Common.{sym, subst, ◌∙◌, arith}
 use Rattle.std.proofs.lemmas.List.{length-replicate}
 use Rattle.row_names.specs.Sheet.{task_kind}
 use Rattle.row_names.specs.Flat.{is_data}
-use Rattle.row_tests.specs.Table.{kind_of}
 use Rattle.name_tests.specs.Lists.{Gathers, Lists}
 use Rattle.names.proofs.VerdictLaws.{blank_all}
 use Rattle.plan.specs.Writes.{outline, tasks_before, parent, plan_f, first}
-use Rattle.plan.specs.Filled.{plan_cells, Held, Fit, Filled, Fills}
+use Rattle.plan.specs.Filled.{plan_cells, Held, Fit, Fills}
 use Rattle.plan_cells.specs.Finds.{tally_counted}
 use Rattle.plan_fill.specs.Rounds.{AllRows, Orders, with_order}
 use Rattle.plan_fill.specs.Waiting.{AllWaits}

@@ -1,5 +1,5 @@
 -- The loops: the rows up to one, and the order up to a place. By one round more at each turn.
-use Rattle.std.specs.Prelude.{ℕ, zero, suc, ◌+◌, ◌-◌, ◌≤◌, ◌<◌, ◌≡◌, refl, Bool, true, false, cond, not, ◌&&◌, ◌||◌, ◌⊎◌, List, eqb, ltb, length, get_or, set, replicate}
+use Rattle.std.specs.Prelude.{ℕ, zero, suc, ◌+◌, ◌-◌, ◌≤◌, ◌<◌, ◌≡◌, refl, Bool, true, false, cond, not, ◌&&◌, ◌||◌, List, eqb, ltb, length, get_or, set, replicate}
 use Rattle.std.proofs.Common.{sym, ap, subst, ◌∙◌, ⊎_elim, arith, add-one, length-set, get_or-set_same, get_or-set_other, eqb-true, eq-eqb, ne_eqb}
 use Rattle.std.proofs.Math.Decide.{dec_lt}
 use Rattle.std.proofs.lemmas.Bool.{eqb-false}
@@ -9,7 +9,7 @@ use Rattle.row_names.specs.Flat.{is_data}
 use Rattle.name_tests.specs.Lists.{Lists}
 use Rattle.plan_cells.specs.declared.spot.Spot.{Spot}
 use Rattle.plan.specs.Writes
-use Writes.{Outline, outline, Column, parent, order, first, room, room_at, Cells, enter, write, store, entries, plan_f, first_that, ready, placed, next, order_f}
+use Writes.{outline, Column, parent, order, first, room, room_at, Cells, enter, write, store, entries, plan_f, first_that, ready, placed, next, order_f}
 use Rattle.plan.specs.Filled.{Held}
 use Rattle.plan.specs.Puts.{Puts}
 use Rattle.plan_cells.specs.Finds.{First, first_is, first_found, first_none}

@@ -1,15 +1,14 @@
 -- Who waits for whom: one row more at each turn.
-use Rattle.std.specs.Prelude.{ℕ, zero, suc, ◌+◌, ◌≤◌, ◌<◌, ◌≡◌, refl, Bool, true, false, cond, ◌&&◌, ◌||◌, ◌⊎◌, List, [], eqb, length, get_or, set, replicate}
+use Rattle.std.specs.Prelude.{ℕ, suc, ◌+◌, ◌≤◌, ◌<◌, ◌≡◌, refl, Bool, true, false, ◌&&◌, ◌||◌, List, [], eqb, length, get_or, set, replicate}
 use Rattle.std.proofs.Common.{sym, ap, subst, ◌∙◌, ⊎_elim, arith, add-one, length-set, get_or-set_same, get_or-set_other, eqb-true, eq-eqb, ne_eqb}
 use Rattle.std.proofs.lemmas.List.{length-replicate, get_or-replicate}
 use Rattle.std.proofs.lemmas.Bool.{eqb-false}
 use Rattle.paper_expressions.proofs.Laws.Tests.{two}
 use Rattle.paper_tokens.specs.Tokens.{“schedule-constraint”}
-use Rattle.parts.specs.Texts.{text_at_fn}
 use Rattle.row_names.specs.Sheet.{task_kind}
 use Rattle.row_tests.specs.Table.{cell_of, kind_of}
 use Rattle.name_tests.specs.Lists.{Lists}
-use Rattle.plan.specs.Writes.{Outline, outline, child, task_named, waits_f}
+use Rattle.plan.specs.Writes.{outline, child, waits_f}
 use Rattle.plan.specs.Filled.{Marked}
 use Rattle.plan_cells.specs.Finds.{Finds, found_number, Child}
 

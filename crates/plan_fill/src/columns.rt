@@ -48,9 +48,7 @@ pub fn columns(
         assigned: 0,
         child: 0,
     };
-    let mut k = 0;
-    while k < n {
+    for k in 0..n {
         at = step(rows, n, bytes, tasks, m, items, d, k, at, f);
-        k += 1;
     }
 }

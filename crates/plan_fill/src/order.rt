@@ -17,10 +17,7 @@ fn is_ready(f: &[u32], marks: &[u8], t: usize) -> bool
         return false;
     }
     let p = number(f, Plan::PARENT + t);
-    if p == 0 {
-        return true;
-    }
-    byte(marks, p - 1) == 1
+    p == 0 || byte(marks, p - 1) == 1
 }
 
 // The next of the `m` tasks, or `m`.
@@ -28,12 +25,10 @@ fn next(f: &[u32], m: usize, marks: &[u8]) -> usize
     requires { m ≤ 32 }
     ensures { result ≡ first_that (ready (parents_in f.now) (placed_in marks.now)) m }
 {
-    let mut t = 0;
-    while t < m {
+    for t in 0..m {
         if is_ready(f, marks, t) {
             return t;
         }
-        t += 1;
     }
     m
 }
@@ -43,10 +38,7 @@ fn placed(t: usize, m: usize) -> u32
     requires { m ≤ 32 }
     ensures { result ≡ cond (ltb t m) t 0 }
 {
-    if t < m {
-        return t as u32;
-    }
-    0
+    if t < m { t as u32 } else { 0 }
 }
 
 fn mark(marks: &mut [u8], t: usize)
@@ -63,11 +55,9 @@ pub fn order(f: &mut [u32], m: usize)
     ensures { Orders m f.old f.new }
 {
     let mut marks = [0u8; 64];
-    let mut k = 0;
-    while k < Tasks::LIMIT {
+    for k in 0..Tasks::LIMIT {
         let t = next(f, m, &marks);
         mark(&mut marks, t);
         put(f, Plan::ORDER, Tasks::LIMIT, k, placed(t, m));
-        k += 1;
     }
 }

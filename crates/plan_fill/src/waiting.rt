@@ -7,20 +7,14 @@ use plan_cells::found::{child, find};
 use row_tests::cells::{handle, kind};
 
 // The task `t` waits for the task `a`.
-fn set(w: WaitTable, t: usize, a: usize) -> WaitTable
+fn set(mut w: WaitTable, t: usize, a: usize) -> WaitTable
     ensures { Sets w t a result }
 {
-    if Tasks::LIMIT <= t {
+    if Tasks::LIMIT <= t || Tasks::LIMIT <= a {
         return w;
     }
-    if Tasks::LIMIT <= a {
-        return w;
-    }
-    let mut v = w;
-    let mut row = v[t];
-    row[a] = true;
-    v[t] = row;
-    v
+    w[t][a] = true;
+    w
 }
 
 // What the row `k` tells, where the last component names the task `c`.
@@ -35,10 +29,11 @@ fn wait(
 ) -> WaitTable
     ensures { Waits rows.now bytes.now tasks.now m k c w result }
 {
-    if kind(rows, k) != Kind::SCHEDULE_CONSTRAINT {
-        return w;
+    if kind(rows, k) == Kind::SCHEDULE_CONSTRAINT {
+        set(w, c, find(rows, bytes, tasks, m, false, handle(rows, k)))
+    } else {
+        w
     }
-    set(w, c, find(rows, bytes, tasks, m, false, handle(rows, k)))
 }
 
 // What the first `n` rows tell of `m` tasks.
@@ -47,12 +42,11 @@ pub fn waiting(rows: &[u32], n: usize, bytes: &[u8], tasks: &[u32], m: usize) ->
 {
     let mut w = [[false; Tasks::LIMIT]; Tasks::LIMIT];
     let mut c = 0;
-    let mut k = 0;
-    while k < n {
+    for k in 0..n {
+        // stays: proof (a call's result laid at once in an array that is a loop's variable gets no generated proof)
         let v = wait(rows, bytes, tasks, m, k, c, w);
         w = v;
         c = child(rows, bytes, tasks, m, k, c);
-        k += 1;
     }
     w
 }
