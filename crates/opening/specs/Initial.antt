@@ -1,12 +1,12 @@
 -- Law: the opened table holds the rows of the initial table that calls and cycles change. By the property of a row: of these load adds the state alone.
-use Rattle.std.specs.Prelude.{ℕ, ◌+◌, ◌*◌, ◌<◌, ◌≤◌, ◌≡◌, refl, ◌⊎◌, List, get_or, length}
+use Rattle.std.specs.Prelude.{ℕ, ◌+◌, ◌*◌, ◌<◌, ◌≤◌, ◌≡◌, refl, List, get_or, length}
 use Rattle.std.proofs.Common.{arith, sym, ap, subst, ◌∙◌, inl, inr}
 use Rattle.std.proofs.Math.Decide.{dec_lt}
 use Rattle.std.proofs.Math.Option.{Option, none, some}
 use Rattle.paper_expressions.specs.Values.{dormant}
 use Rattle.paper_expressions.proofs.Laws.Search.{no_clash}
-use Rattle.paper_guideline.specs.Structure.{TopLevel, Task, tasks}
-use Rattle.paper_rows.specs.Table.{task, data_item, Component, ◌№◌, Property, state, value, requested, RowValue, state_is, Table, Contains}
+use Rattle.paper_guideline.specs.Structure.{TopLevel, tasks}
+use Rattle.paper_rows.specs.Table.{task, data_item, Component, ◌№◌, Property, state, value, RowValue, state_is, Table}
 use Rattle.paper_rows.specs.Load.{Adds, task_3, Initial}
 use Rattle.paper_rows.proofs.Laws.Lists.{at_below, below_at}
 use Rattle.paper_rows.proofs.Laws.Lawful.{Lawful, defined}

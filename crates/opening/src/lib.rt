@@ -24,15 +24,11 @@ impl State {
 fn dormant(s: &mut [u32], t: usize)
     ensures { Marks s.old t s.new }
 {
-    if Tasks::LIMIT <= t {
-        return;
+    if t < Tasks::LIMIT && State::LEAST <= s.len() {
+        let p = usize::from(Property::STATE) + t;
+        s[p] = State::TAG;
+        s[p + Tasks::LIMIT] = State::DORMANT;
     }
-    if s.len() < State::LEAST {
-        return;
-    }
-    let p = Property::STATE as usize + t;
-    s[p] = State::TAG;
-    s[p + Tasks::LIMIT] = State::DORMANT;
 }
 
 // Opens the table for a guideline of `n` tasks.
@@ -44,9 +40,7 @@ pub fn open(s: &mut [u32], n: usize)
         return;
     }
     s[Header::LOADED] = 1;
-    let mut t = 0usize;
-    while t < n {
+    for t in 0..n {
         dormant(s, t);
-        t += 1;
     }
 }
