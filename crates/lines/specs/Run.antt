@@ -1,5 +1,5 @@
 -- What the small program does with its input, step by step: it calls `take`, writes a line where one ended, and the last one at the end. Definitions only.
-use Rattle.std.specs.Prelude.{ℕ, ◌+◌, ◌≤◌, ◌<◌, ◌≡◌, Bool, true, false, List, [], ◌∷◌, ◌++◌, length, take}
+use Rattle.std.specs.Prelude.{ℕ, ◌+◌, ◌≤◌, ◌<◌, ◌≡◌, true, false, List, [], ◌∷◌, ◌++◌, length, take}
 use Rattle.paper_expressions.specs.Bytes.{bytes}
 use Rattle.paper_guideline.specs.Line.{LineAnswer, LineAnswers, digits_of, answer_written}
 use Rattle.lines.specs.Kept.{Takes}

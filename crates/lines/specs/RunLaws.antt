@@ -1,5 +1,5 @@
 -- What the program writes, step by step, is the published output: what is kept of a line has the line's own answer, and `take` cuts the input where `lines` does.
-use Rattle.std.specs.Prelude.{ℕ, suc, ◌+◌, ◌≤◌, ◌<◌, min, ◌≡◌, refl, Bool, true, false, cond, List, [], ◌∷◌, ◌++◌, eqb, length, take, drop}
+use Rattle.std.specs.Prelude.{ℕ, suc, ◌+◌, ◌≤◌, ◌<◌, ◌≡◌, refl, Bool, true, false, cond, List, [], ◌∷◌, ◌++◌, eqb, length, take, drop}
 use Rattle.std.proofs.Common.{arith, sym, ap, subst, ◌∙◌, ⊎_elim, append_assoc, append-nil, length-take, length-drop, drop_of_length-le, take_all, drop-drop}
 use Rattle.std.proofs.Math.Seq.{drop-length}
 use Rattle.paper_guideline.specs.Limits.{guideline_limit}

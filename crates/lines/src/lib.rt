@@ -32,37 +32,32 @@ pub struct Taken {
 fn keep(kept: &mut [u8], n: usize, b: u8) -> usize
     ensures { Keeps kept.old n b kept.new result }
 {
-    if Line::KEPT <= n {
-        return n;
+    if n < Line::KEPT && n < kept.len() {
+        kept[n] = b;
+        n + 1
+    } else {
+        n
     }
-    if kept.len() <= n {
-        return n;
-    }
-    kept[n] = b;
-    n + 1
 }
 
 // Moves the bytes of a chunk from a place on behind the n bytes that are kept of the line, up to its newline or to the chunk's end.
 pub fn take(chunk: &[u8], from: usize, kept: &mut [u8], n: usize) -> Taken
     ensures { Takes chunk.now from kept.old n kept.new result }
 {
-    let mut at = from;
-    let mut count = n;
-    while at < chunk.len() {
-        let b = chunk[at];
-        if b == b'\n' {
+    let mut n = n;
+    for at in from..chunk.len() {
+        if chunk[at] == b'\n' {
             return Taken {
                 at: at + 1,
-                n: count,
+                n,
                 ended: true,
             };
         }
-        count = keep(kept, count, b);
-        at += 1;
+        n = keep(kept, n, chunk[at]);
     }
     Taken {
-        at: at,
-        n: count,
+        at: from.max(chunk.len()),
+        n,
         ended: false,
     }
 }

@@ -1,13 +1,11 @@
--- `lines::keep` meets its contract: the byte goes behind those that are kept, or so many are kept that it is dropped.
-use borrow.Author.Rules.{rules}
+-- `keep`: the byte goes behind those that are kept, or so many are kept that it is dropped.
+use Rattle.std.proofs.Common.{◌≤◌, ◌<◌, ⊎_elim, length}
 use Rattle.lines.proofs.Taking.{full, no_room, behind}
 use Rattle.lines.proofs.keep.Goals as goal
 
-pub returns-then-n-ge-KEPT : goal.returns-then-n-ge-KEPT
-returns-then-n-ge-KEPT c = full c.args.b c.if-n-ge-KEPT.true
+pub returns-then-n-kept : goal.returns-then-n-kept
+returns-then-n-kept c = behind c.args.b c.if-n-lt-KEPT.true c.if-n-kept.true
 
-pub returns-then-kept-n : goal.returns-then-kept-n
-returns-then-kept-n c = no_room c.args.b c.if-n-ge-KEPT.false c.if-kept-n.true
-
-pub returns : goal.returns
-returns c = behind c.args.b c.if-n-ge-KEPT.false c.if-kept-n.false
+pub returns-else-n-lt-KEPT : goal.returns-else-n-lt-KEPT
+returns-else-n-lt-KEPT c =
+    ⊎_elim (λ (x : (c.args.n < 16385) × (length c.args.kept.now ≤ c.args.n)). no_room c.args.b x.0 x.1) (full c.args.b) c.else-n-lt-KEPT.either
