@@ -1,14 +1,11 @@
 -- From what each test finds to the outcome of all: the smallest of the three places of the limits, and the stages in their order.
-use Rattle.std.specs.Prelude.{ℕ, zero, suc, ◌+◌, ◌*◌, ◌≤◌, ◌<◌, ◌≡◌, refl, Bool, true, false, ◌||◌, ◌⊎◌, List, [], ◌∷◌, leb, ltb, length, get_or, replicate}
-use Rattle.std.proofs.Common.{arith, sym, ap, subst, ◌∙◌, inl, inr, ⊎_elim, leb-true, leb-false, le-leb, ltb-true, ltb-false, lt-ltb}
-use Rattle.std.proofs.Math.Option.{Option, none, some}
+use Rattle.std.specs.Prelude.{ℕ, zero, suc, ◌+◌, ◌*◌, ◌≤◌, ◌<◌, ◌≡◌, refl, Bool, true, false, ◌||◌, List, [], ◌∷◌, leb, ltb, length, get_or, replicate}
+use Rattle.std.proofs.Common.{arith, sym, ap, subst, ◌∙◌, ⊎_elim, leb-true, leb-false, le-leb, ltb-true, ltb-false, lt-ltb}
 use Rattle.std.proofs.lemmas.Bool.{lt-leb}
 use Rattle.paper_expressions.proofs.Laws.Tests.{two}
 use Rattle.paper_expressions.specs.View as View
 use Rattle.paper_guideline.specs.Limits.{guideline_limit, token_limit, task_limit, data_item_limit, part_limit, assignment_limit, source_limit}
 use Rattle.paper_tokens.specs.Lexical.{Token, Tokens}
-use Rattle.paper_tokens.specs.Terminals.{Terminals}
-use Rattle.paper_tokens.proofs.Laws.TerminalLaws.{terminals_are, terminal_f}
 use Rattle.paper_guideline.specs.LeftOut.{LeftOut}
 use Rattle.paper_grammar.specs.Sentence.{SentenceOf}
 use Rattle.paper_grammar.specs.Nonterminals.{⟨process⟩}
@@ -20,8 +17,7 @@ use Rattle.leaves.specs.Source.{Source, source, Stand, at_end, at_token}
 use Rattle.expression_steps.specs.Levels.{stand_length}
 use Rattle.limits.specs.Limits.{row_cells}
 use Rattle.parts.specs.Part.{Table, table}
-use Rattle.blank.specs.Zeros.{zero_at, zeros}
-use Rattle.pool.specs.Pooled.{Fits}
+use Rattle.blank.specs.Zeros.{zero_at}
 use Rattle.guideline_rows.specs.Rows.{flatten}
 use Rattle.guideline_rows.specs.FlatLaws.{structure_flat, few_rows}
 use Rattle.guideline_rows.specs.Room.{room_enough}
@@ -39,7 +35,7 @@ use Rattle.stages.specs.Least.{Least, least, Either, least_either}
 use Rattle.stages.specs.Stages.{Passed, PlaceOf, of_token, of_end, early_passed, grammar_refused, grammar_passed, left_out_refused, left_out_passed}
 use Rattle.stages.specs.Limits.{CountOver, tasks_over, data_items_over, parts_over, assignments_over, sources_over, short_over, WholeOver, Over, limit_refused, limit_passed}
 use Rattle.columns.specs.Columns.{Lexed}
-use Rattle.stages.specs.Judged.{spot, Places, BadAt, Sentences, Large, SomeOver, tasks, items, parts, assignments, sources, tables, NoneOver, AnyOver, Whole, OverLimits, is_short, Short, Empty, Accepted, Outcome, Limited, Judges}
+use Rattle.stages.specs.Judged.{spot, Places, Sentences, Large, SomeOver, tasks, items, parts, assignments, sources, tables, NoneOver, AnyOver, Whole, OverLimits, is_short, Short, Empty, Limited, Judges}
 use Rattle.columns.specs.Clean.{clean}
 use Rattle.paper_guideline.specs.Parts.{expressions}
 

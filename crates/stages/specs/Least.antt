@@ -1,6 +1,6 @@
 -- The smallest place at which something holds, or that it holds nowhere; and of two such things together, the smaller of the two.
-use Rattle.std.specs.Prelude.{ℕ, ◌≤◌, ◌<◌, ◌≡◌, refl, ◌⊎◌, Bool, true, false, cond, leb}
-use Rattle.std.proofs.Common.{arith, sym, ap, subst, ◌∙◌, inl, inr, ⊎_elim, leb-true, leb-false}
+use Rattle.std.specs.Prelude.{ℕ, ◌≤◌, ◌≡◌, refl, ◌⊎◌, Bool, true, false, cond, leb}
+use Rattle.std.proofs.Common.{arith, sym, ap, subst, inl, inr, ⊎_elim, leb-true, leb-false}
 use Rattle.std.proofs.Math.Option.{Option, none, some}
 use Rattle.paper_expressions.proofs.Laws.Tests.{two}
 

@@ -1,17 +1,16 @@
 -- The limits that load tests after what is left out, as one test each over the tokens, over the expressions and over the whole; and that together they are the stage's breaches. By the one structure that the tokens have.
-use Rattle.std.specs.Prelude.{ℕ, ◌≤◌, ◌<◌, ◌≡◌, refl, ◌⊎◌, List, [], ◌∷◌, length}
-use Rattle.std.proofs.Common.{arith, sym, ap, subst, ◌∙◌, inl, inr, ⊎_elim}
-use Rattle.std.proofs.Math.Option.{Option, none, some}
-use Rattle.paper_expressions.specs.Limits.{list_limit}
+use Rattle.std.specs.Prelude.{ℕ, ◌<◌, ◌≡◌, refl, List, length}
+use Rattle.std.proofs.Common.{arith, sym, subst, inl, inr}
+use Rattle.std.proofs.Math.Option.{none, some}
 use Rattle.paper_expressions.specs.View.{At}
 use Rattle.paper_tokens.specs.Lexical.{Token, Tokens}
 use Rattle.paper_tokens.proofs.Laws.LexicalLaws as LexicalLaws
 use Rattle.paper_guideline.specs.Structure.{TopLevel, Structure, tasks, data_items}
 use Rattle.paper_guideline.proofs.Laws.StructureLaws.{one_structure}
-use Rattle.paper_guideline.specs.Parts.{Typed, expressions, assignments, sources}
-use Rattle.paper_guideline.specs.Limits.{task_limit, data_item_limit, part_limit, depth_limit, assignment_limit, source_limit, depth, longest_list}
+use Rattle.paper_guideline.specs.Parts.{expressions, assignments, sources}
+use Rattle.paper_guideline.specs.Limits.{task_limit, data_item_limit, part_limit, assignment_limit, source_limit}
 use Rattle.paper_guideline.specs.Refusals
-use Refusals.{Stage, limit_stage, turn, Breach, Refused, Read, TokenBreach, total_parts}
+use Refusals.{limit_stage, Breach, Read, total_parts}
 use Refusals.{token_breach, too_deep, long_list, many_tasks, many_data_items, many_parts, many_assignments, many_sources, short_table}
 use Rattle.token_tests.specs.Reply.{OverLimit}
 use Rattle.guideline_rows.specs.TallyLaws.{TooLarge, breaks_large}

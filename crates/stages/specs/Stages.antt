@@ -1,5 +1,5 @@
 -- From what the test of each stage finds to the refusal of load: a lemma for each stage, in the order of the tests. A stage is passed by the stages before it and one breach that cannot be.
-use Rattle.std.specs.Prelude.{ℕ, zero, suc, ◌+◌, ◌≤◌, ◌<◌, ◌≡◌, refl, ◌⊎◌, true, false, List, [], ◌∷◌, leb, length}
+use Rattle.std.specs.Prelude.{ℕ, suc, ◌≤◌, ◌<◌, ◌≡◌, refl, ◌⊎◌, true, false, List, leb, length}
 use Rattle.std.proofs.Common.{arith, sym, ap, subst, ◌∙◌, inl, inr, ⊎_elim, leb-true, leb-false}
 use Rattle.paper_expressions.proofs.Laws.Tests.{two}
 use Rattle.paper_expressions.specs.View.{At, at_first, at_later}
@@ -12,7 +12,7 @@ use Rattle.paper_tokens.proofs.Laws.LexicalLaws as LexicalLaws
 use Rattle.paper_tokens.proofs.Laws.TerminalLaws as TerminalLaws
 use Rattle.paper_grammar.proofs.Laws.Same.{first_bad_one}
 use Rattle.paper_guideline.specs.Refusals
-use Refusals.{Stage, text_stage, lexical_stage, count_stage, grammar_stage, left_out_stage, limit_stage, name_stage, type_stage, turn, number, Breach, Refused}
+use Refusals.{Stage, grammar_stage, left_out_stage, limit_stage, turn, Breach, Refused}
 use Refusals.{high_byte, long, no_rule, many_tokens, many_open, bad_token, bad_end, uses_left_out, token_breach, too_deep, long_list}
 use Refusals.{many_tasks, many_data_items, many_parts, many_assignments, many_sources, short_table, name_breach, no_type}
 use Rattle.paper_guideline.proofs.Laws.RefusalLaws.{by_turn, by_its_turn}

@@ -27,9 +27,10 @@ fn place_of(text: &[u8], kinds: &[u8], places: &[usize], i: usize) -> usize
     ensures { Places text.now kinds.now places.now i result }
 {
     if i < kinds.len() {
-        return cell(places, i);
+        cell(places, i)
+    } else {
+        text.len()
     }
-    text.len()
 }
 
 // Refusal 3: the first token that no guideline can have there.

@@ -15,12 +15,7 @@ fn earlier(a: Found, b: Found) -> Found
         Found::Nowhere => b,
         Found::At(p) => match b {
             Found::Nowhere => Found::At(p),
-            Found::At(q) => {
-                if p <= q {
-                    return Found::At(p);
-                }
-                Found::At(q)
-            }
+            Found::At(q) => Found::At(p.min(q)),
         },
     }
 }
@@ -30,31 +25,22 @@ fn large(t: Totals) -> Found
     ensures { Large t result }
 {
     if t.large {
-        return Found::At(t.place);
+        Found::At(t.place)
+    } else {
+        Found::Nowhere
     }
-    Found::Nowhere
 }
 
 // Whether a whole count is passed, or a lent table is too short.
 fn any_over(t: Totals, short: bool) -> bool
     ensures { AnyOver t short result }
 {
-    if Tasks::LIMIT < t.tasks {
-        return true;
-    }
-    if DataItems::LIMIT < t.items {
-        return true;
-    }
-    if Expressions::PARTS < t.parts {
-        return true;
-    }
-    if Assignments::LIMIT < t.assignments {
-        return true;
-    }
-    if Sources::LIMIT < t.sources {
-        return true;
-    }
-    short
+    Tasks::LIMIT < t.tasks
+        || DataItems::LIMIT < t.items
+        || Expressions::PARTS < t.parts
+        || Assignments::LIMIT < t.assignments
+        || Sources::LIMIT < t.sources
+        || short
 }
 
 // That, at the text's length.
@@ -62,9 +48,10 @@ fn whole(text: &[u8], t: Totals, short: bool) -> Found
     ensures { Whole text.now t short result }
 {
     if any_over(t, short) {
-        return Found::At(text.len());
+        Found::At(text.len())
+    } else {
+        Found::Nowhere
     }
-    Found::Nowhere
 }
 
 // All of them.

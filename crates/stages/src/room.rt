@@ -8,14 +8,5 @@ use limits::{Expressions, Guideline, Rows};
 pub fn short(rows: usize, cells: usize, bytes: usize) -> bool
     ensures { result ≡ is_short rows cells bytes }
 {
-    if rows < Rows::CELLS {
-        return true;
-    }
-    if cells < Expressions::CELLS {
-        return true;
-    }
-    if bytes < Guideline::LIMIT {
-        return true;
-    }
-    false
+    rows < Rows::CELLS || cells < Expressions::CELLS || bytes < Guideline::LIMIT
 }
