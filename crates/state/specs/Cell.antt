@@ -1,10 +1,10 @@
 -- A row of the Properties table that the engine changes, as two numbers: a tag (absent, unknown, which kind) and a number.
 -- Law: the row gives the two numbers, and they give the row.
-use Rattle.std.specs.Prelude.{ℕ, ◌+◌, ◌≡◌, refl, Bool, true, false, cond, ◌&&◌, ◌↔◌, eqb, leb, ℤ, pos, negsuc, nat_abs, ◌≤◌}
-use Rattle.std.proofs.Common.{sym, ap, ap₂, ◌∙◌, eq-eqb, eqb-true, le-leb, leb-true}
+use Rattle.std.specs.Prelude.{ℕ, ◌≡◌, refl, Bool, true, false, cond, ◌&&◌, ◌↔◌, eqb, pos, nat_abs}
+use Rattle.std.proofs.Common.{sym, ap, ap₂, ◌∙◌, eq-eqb, eqb-true}
 use Rattle.std.proofs.Math.Option.{Option, none, some}
 use Rattle.paper_expressions.proofs.Laws.Search.{no_clash}
-use Rattle.paper_expressions.specs.Values.{Scalar, unknown, truth, integer, real, text, Value, one, sequence, TaskState, dormant, in_progress, discarded, completed}
+use Rattle.paper_expressions.specs.Values.{unknown, truth, integer, real, text, Value, one, sequence, TaskState, dormant, in_progress, discarded, completed}
 use Rattle.paper_rows.specs.Table.{RowValue, value_is, state_is, class_is, type_is, time_is, expression_is, assertion_is, component_is, components_are, unknown_row, truth_row, integer_row}
 
 -- ---- the two numbers of a row

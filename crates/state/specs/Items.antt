@@ -1,14 +1,10 @@
 -- The value of a data item as cells and bytes: its shape, whether there is a row, a tag and a number for each of 16 elements, and 48 bytes for the text of each.
 -- Every cell and byte is determined; law: they determine the value.
-use Rattle.std.specs.Prelude.{ℕ, zero, suc, ◌+◌, ◌*◌, ◌<◌, ◌≤◌, ◌≡◌, refl, Bool, true, false, List, [], ◌∷◌, ℤ, get_or, length}
-use Rattle.std.proofs.Common.{arith, sym, ap, ap₂, subst, ◌∙◌, ext_get_or}
-use Rattle.std.proofs.Math.Decide.{dec_lt}
+use Rattle.std.specs.Prelude.{ℕ, zero, suc, ◌+◌, ◌*◌, ◌<◌, ◌≤◌, ◌≡◌, refl, Bool, true, false, List, [], ℤ, get_or, length}
+use Rattle.std.proofs.Common.{arith, sym, ap, ◌∙◌, ext_get_or}
 use Rattle.std.proofs.Math.Option.{Option, none, some}
-use Rattle.std.proofs.Math.ListN.{get_or-eq_default}
-use Rattle.paper_expressions.specs.Limits.{integer_limit, real_limit, text_limit, list_limit}
 use Rattle.paper_expressions.specs.Values.{Scalar, unknown, truth, integer, real, text, Value, one, sequence}
 use Rattle.paper_expressions.proofs.Laws.WithinLimits.{Small, unknown_small, truth_small, integer_small, real_small, text_small, EachSmall, none_small, more_small, Limited, one_limited, list_limited}
-use Rattle.paper_expressions.proofs.Laws.Search.{no_clash}
 use Rattle.parts.specs.Texts.{handle, literal, moved, literal_moved}
 use Rattle.state.specs.Cell.{bit}
 
