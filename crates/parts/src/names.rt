@@ -6,7 +6,7 @@ ghost use Rattle.paper_expressions.proofs.Laws.Search.{alikeb};
 ghost use Rattle.parts.specs.Texts.{cells};
 ghost use Rattle.parts.specs.Items.{Found};
 
-use super::{HANDLE, number};
+use super::HANDLE;
 
 // How far a small letter stands behind its capital.
 const CASE: u8 = b'a' - b'A';
@@ -50,12 +50,10 @@ pub fn alike(bytes: &[u8], x: usize, n: usize, y: usize, m: usize) -> bool
     if n != m {
         return false;
     }
-    let mut i = 0;
-    while i < n {
+    for i in 0..n {
         if letter(bytes, x, i) != letter(bytes, y, i) {
             return false;
         }
-        i += 1;
     }
     true
 }
@@ -64,13 +62,11 @@ pub fn alike(bytes: &[u8], x: usize, n: usize, y: usize, m: usize) -> bool
 pub fn find(bytes: &[u8], names: &[u32], h: usize) -> usize
     ensures { Found bytes.now names.now h result }
 {
-    let mut i = 0;
-    while i < names.len() {
-        let x = number(names, i);
+    for (i, name) in names.iter().enumerate() {
+        let x = *name as usize;
         if alike(bytes, x / HANDLE, x % HANDLE, h / HANDLE, h % HANDLE) {
             return i;
         }
-        i += 1;
     }
-    i
+    names.len()
 }
