@@ -6,34 +6,20 @@ ghost use Rattle.paper_expressions.proofs.Laws.Search.{alikeb};
 ghost use Rattle.parts.specs.Texts.{cells};
 ghost use Rattle.parts.specs.Items.{Found};
 
-use super::HANDLE;
-
-// How far a small letter stands behind its capital.
-const CASE: u8 = b'a' - b'A';
+use super::{HANDLE, byte};
 
 // A to Z as a to z.
 pub fn lower(a: u8) -> u8
     ensures { result ≡ fold a }
 {
-    if b'A' <= a {
-        if a <= b'Z' {
-            return a + CASE;
-        }
-    }
-    a
+    a.to_ascii_lowercase()
 }
 
 // The byte `i` of the text from `x` on.
 pub fn at(bytes: &[u8], x: usize, i: usize) -> u8
     ensures { result ≡ get_or bytes.now (x + i) 0 }
 {
-    if bytes.len() <= x {
-        return 0;
-    }
-    if bytes.len() - x <= i {
-        return 0;
-    }
-    bytes[x + i]
+    byte(bytes, x.saturating_add(i))
 }
 
 // The same, A to Z as a to z.
