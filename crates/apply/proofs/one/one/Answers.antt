@@ -19,7 +19,7 @@ pub returns-in-120 : goal.returns-in-120
 returns-in-120 c = let a = c.args in arm a.bytes.now a.tasks.now a.states.now a.kind c.sum.result 120 (a.a ∷ []) c.in-120.is (λ l. c.sum.ensures a.bytes.now)
 
 pub returns-in-130 : goal.returns-in-130
-returns-in-130 c = let a = c.args in arm a.bytes.now a.tasks.now a.states.now a.kind c.extreme.result 130 (a.a ∷ []) c.in-130.is (λ l. c.extreme.ensures)
+returns-in-130 c = let a = c.args in arm a.bytes.now a.tasks.now a.states.now a.kind c.max.result 130 (a.a ∷ []) c.in-130.is (λ l. c.max.ensures)
 
 pub returns-in-131 : goal.returns-in-131
-returns-in-131 c = let a = c.args in arm a.bytes.now a.tasks.now a.states.now a.kind c.extreme-in-131.result 131 (a.a ∷ []) c.in-131.is (λ l. c.extreme-in-131.ensures)
+returns-in-131 c = let a = c.args in arm a.bytes.now a.tasks.now a.states.now a.kind c.min.result 131 (a.a ∷ []) c.in-131.is (λ l. c.min.ensures)
