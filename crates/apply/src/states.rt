@@ -1,5 +1,5 @@
 // "is_dormant", "is_in_progress", "is_discarded" and "is_completed" (11.2.10), over the lent names and states of the tasks.
-ghost use Rattle.std.specs.Prelude.{◌≡◌};
+ghost use Rattle.std.specs.Prelude.{◌≡◌, ◌<◌, length, MatchOption};
 ghost use Rattle.paper_expressions.proofs.Laws.Search.{alikeb};
 ghost use Rattle.values.specs.Meaning.{bytes_of, handle_of};
 ghost use Rattle.apply.specs.Tasks.{FoundTask, StateOf};
@@ -29,29 +29,26 @@ fn named(bytes: &[u8], x: usize, h: Handle) -> bool
     parts::names::alike(bytes, x / HANDLE, x % HANDLE, h.at, h.len)
 }
 
-// 9.6, where names are apart: the task with that name, or a number that no task has. Task 0 is the root, which has no name.
-fn find_task(bytes: &[u8], tasks: &[u32], h: Handle) -> usize
-    ensures { FoundTask bytes.now tasks.now h result }
+// 9.6, where names are apart: the task with that name, if there is one. Task 0 is the root, which has no name.
+fn find_task(bytes: &[u8], tasks: &[u32], h: Handle) -> Option<usize>
+    ensures { MatchOption result (FoundTask bytes.now tasks.now h (length tasks.now)) (λ i. (i < length tasks.now) × FoundTask bytes.now tasks.now h i) }
 {
-    let mut i = 1;
-    while i < tasks.len() {
+    for i in 1..tasks.len() {
         if named(bytes, parts::number(tasks, i), h) {
-            return i;
+            return Some(i);
         }
-        i += 1;
     }
-    i
+    None
 }
 
 // Whether the task that the text names is in the state; unknown if there is none.
 fn in_state(bytes: &[u8], tasks: &[u32], states: &[u32], state: usize, h: Handle) -> Scalar
     ensures { StateOf bytes.now tasks.now states.now state h result }
 {
-    let i = find_task(bytes, tasks, h);
-    if i < tasks.len() {
-        return Scalar::Truth(parts::number(states, i) == state);
+    match find_task(bytes, tasks, h) {
+        Some(i) => Scalar::Truth(parts::number(states, i) == state),
+        None => Scalar::Unknown,
     }
-    Scalar::Unknown
 }
 
 // One of the four functors, by the number of its state.
@@ -60,10 +57,7 @@ pub fn is_in(bytes: &[u8], tasks: &[u32], states: &[u32], state: usize, a: Value
 {
     let s = values::scalar_of(a);
     match s {
-        Scalar::Unknown => values::single(Scalar::Unknown),
-        Scalar::Truth(_) => values::single(Scalar::Unknown),
-        Scalar::Int(_) => values::single(Scalar::Unknown),
-        Scalar::Real(_) => values::single(Scalar::Unknown),
         Scalar::Text(h) => values::single(in_state(bytes, tasks, states, state, h)),
+        _ => values::single(Scalar::Unknown),
     }
 }

@@ -1,10 +1,10 @@
 -- Arithmetic: the code's functions on scalars come to what the definitions' come to, by the variants; and an integer times a real needs no cut.
-use mathlib.Core.Path.{◌≡◌, refl, sym, ap, ap₂, subst, ◌∙◌}
+use mathlib.Core.Path.{◌≡◌, refl, sym, ap, ap₂, ◌∙◌}
 use mathlib.Core.Bool.{Bool, true, false, cond}
 use mathlib.Core.List.{List, [], ◌∷◌}
-use Prim.Native.Nat.{ℕ, zero, suc, ◌+◌, ◌*◌, ◌/◌, ◌≤◌, ◌<◌}
+use Prim.Native.Nat.{ℕ, zero, suc, ◌*◌, ◌/◌, ◌≤◌}
 use native.Mathlib.Nat.{mul_right_comm, mul-div_cancel, zero-div, zero-mul}
-use lib.IntN.{ℤ, pos, negsuc, nat_abs, neg_ℤ, ◌+ℤ◌, ◌-ℤ◌, ◌*ℤ◌, *ℤ_comm, +ℤ_idl}
+use lib.IntN.{ℤ, pos, negsuc, nat_abs, neg_ℤ, ◌-ℤ◌, ◌*ℤ◌, *ℤ_comm, +ℤ_idl}
 use lib.Signed.{quot_z}
 use lib.Dec.{leb, lit<}
 use borrow.Author.Tests.{le-leb}
@@ -15,7 +15,7 @@ use Rattle.paper_expressions.specs.Clauses.{§11·1·1-1a, §11·1·1-1b, §11·
 use Rattle.paper_expressions.proofs.Laws.WithinLimits.{Limited, one_limited, integer_small, real_small}
 use Rattle.paper_expressions.specs.Operators as section-11
 use Rattle.paper_expressions.specs.Operators.{whole, decimal, cut, quotient}
-use Rattle.paper_expressions.proofs.Laws.Only.{Answer, gives, Summand, absent, other_sort, entire, part, summand, arith_f, whole_sum, real_sum, zero_z, divided_f, Term, missing, other, amount, term, over, negate_f}
+use Rattle.paper_expressions.proofs.Laws.Only.{gives, Summand, absent, other_sort, entire, part, summand, arith_f, whole_sum, real_sum, zero_z, divided_f, Term, missing, other, amount, term, over, negate_f}
 use Rattle.values.specs.declared.scalar.Scalar.{Scalar}
 use Rattle.values.specs.declared.scalar.Scalar.TheVariants.{Unknown, Truth, Int, Real, Text}
 use Rattle.values.specs.declared.value.Value as Code
@@ -24,7 +24,7 @@ use Rattle.operators.specs.declared.operator.Arithmetic.{Arithmetic}
 use Rattle.operators.specs.declared.operator.Arithmetic.TheVariants.{Plus, Minus, Times}
 use Rattle.operators.specs.Means.{operation, meanings}
 use Rattle.operators.specs.Comes.{given, comes, lowered, lowered_is}
-use Rattle.arithmetic.specs.Twins.{combined, with_int, with_real, arith_c, quotient_c, divide_by, divide_c, negate_c}
+use Rattle.arithmetic.specs.Twins.{combined, arith_c, quotient_c, divide_by, divide_c, negate_c}
 
 -- ---- a thousand times, cut by a thousand
 

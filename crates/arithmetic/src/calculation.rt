@@ -4,7 +4,7 @@ ghost use Rattle.paper_expressions.specs.Operators as paper;
 ghost use Rattle.paper_expressions.proofs.Laws.WithinLimits.{Limited};
 ghost use Rattle.values.specs.Meaning.{meaning_v};
 ghost use Rattle.operators.specs.Means.{Means, operation};
-ghost use Rattle.arithmetic.specs.Twins.{combined, with_int, with_real, arith_c, quotient_c, divide_by, divide_c, negate_c};
+ghost use Rattle.arithmetic.specs.Twins.{combined, arith_c, quotient_c, divide_c, negate_c};
 
 use numbers::{Num, Wide};
 use operators::Arithmetic;
@@ -26,56 +26,39 @@ fn combine(o: Arithmetic, x: Wide, y: Wide, p: Wide) -> Wide
 fn real_product(x: Num, y: Num) -> Wide
     ensures { result.z ≡ paper.decimal paper.times x.z y.z }
 {
-    let p = numbers::product(x, y);
-    numbers::cut(p, Wide { z: Num::UNIT })
+    numbers::cut(numbers::product(x, y), Wide { z: Num::UNIT })
 }
 
-// An integer and a scalar. Thousandths times an integer need no cut.
-fn with_integer(o: Arithmetic, x: Num, b: Scalar) -> Scalar
-    ensures { result ≡ with_int o x b }
-{
-    match b {
-        Scalar::Unknown => Scalar::Unknown,
-        Scalar::Truth(_) => Scalar::Unknown,
-        Scalar::Int(y) => {
-            let p = numbers::product(x, y);
-            values::integer(combine(o, numbers::wide_of(x), numbers::wide_of(y), p))
-        }
-        Scalar::Real(y) => {
-            let p = numbers::product(x, y);
-            values::real(combine(o, numbers::thousandths(x), numbers::wide_of(y), p))
-        }
-        Scalar::Text(_) => Scalar::Unknown,
-    }
-}
-
-fn with_real(o: Arithmetic, x: Num, b: Scalar) -> Scalar
-    ensures { result ≡ with_real o x b }
-{
-    match b {
-        Scalar::Unknown => Scalar::Unknown,
-        Scalar::Truth(_) => Scalar::Unknown,
-        Scalar::Int(y) => {
-            let p = numbers::product(x, y);
-            values::real(combine(o, numbers::wide_of(x), numbers::thousandths(y), p))
-        }
-        Scalar::Real(y) => {
-            let p = real_product(x, y);
-            values::real(combine(o, numbers::wide_of(x), numbers::wide_of(y), p))
-        }
-        Scalar::Text(_) => Scalar::Unknown,
-    }
-}
-
+// Thousandths times an integer need no cut.
 fn arithmetic_of(o: Arithmetic, a: Scalar, b: Scalar) -> Scalar
     ensures { result ≡ arith_c o a b }
 {
-    match a {
-        Scalar::Unknown => Scalar::Unknown,
-        Scalar::Truth(_) => Scalar::Unknown,
-        Scalar::Int(x) => with_integer(o, x, b),
-        Scalar::Real(x) => with_real(o, x, b),
-        Scalar::Text(_) => Scalar::Unknown,
+    match (a, b) {
+        (Scalar::Int(x), Scalar::Int(y)) => values::integer(combine(
+            o,
+            numbers::wide_of(x),
+            numbers::wide_of(y),
+            numbers::product(x, y),
+        )),
+        (Scalar::Int(x), Scalar::Real(y)) => values::real(combine(
+            o,
+            numbers::thousandths(x),
+            numbers::wide_of(y),
+            numbers::product(x, y),
+        )),
+        (Scalar::Real(x), Scalar::Int(y)) => values::real(combine(
+            o,
+            numbers::wide_of(x),
+            numbers::thousandths(y),
+            numbers::product(x, y),
+        )),
+        (Scalar::Real(x), Scalar::Real(y)) => values::real(combine(
+            o,
+            numbers::wide_of(x),
+            numbers::wide_of(y),
+            real_product(x, y),
+        )),
+        _ => Scalar::Unknown,
     }
 }
 
@@ -91,33 +74,24 @@ fn quotient(x: Wide, y: Wide) -> Scalar
     ensures { result ≡ quotient_c x.z y.z }
 {
     if numbers::is_zero(y) {
-        return Scalar::Unknown;
-    }
-    values::real(numbers::cut(numbers::scaled(x), y))
-}
-
-fn divide_by(x: Wide, b: Scalar) -> Scalar
-    requires { nat_abs x.z ≤ 2 ^ 41 }
-    ensures { result ≡ divide_by x.z b }
-{
-    match b {
-        Scalar::Unknown => Scalar::Unknown,
-        Scalar::Truth(_) => Scalar::Unknown,
-        Scalar::Int(y) => quotient(x, numbers::thousandths(y)),
-        Scalar::Real(y) => quotient(x, numbers::wide_of(y)),
-        Scalar::Text(_) => Scalar::Unknown,
+        Scalar::Unknown
+    } else {
+        values::real(numbers::cut(numbers::scaled(x), y))
     }
 }
 
 fn divide_of(a: Scalar, b: Scalar) -> Scalar
     ensures { result ≡ divide_c a b }
 {
-    match a {
-        Scalar::Unknown => Scalar::Unknown,
-        Scalar::Truth(_) => Scalar::Unknown,
-        Scalar::Int(x) => divide_by(numbers::thousandths(x), b),
-        Scalar::Real(x) => divide_by(numbers::wide_of(x), b),
-        Scalar::Text(_) => Scalar::Unknown,
+    match (a, b) {
+        (Scalar::Int(x), Scalar::Int(y)) => quotient(
+            numbers::thousandths(x),
+            numbers::thousandths(y),
+        ),
+        (Scalar::Int(x), Scalar::Real(y)) => quotient(numbers::thousandths(x), numbers::wide_of(y)),
+        (Scalar::Real(x), Scalar::Int(y)) => quotient(numbers::wide_of(x), numbers::thousandths(y)),
+        (Scalar::Real(x), Scalar::Real(y)) => quotient(numbers::wide_of(x), numbers::wide_of(y)),
+        _ => Scalar::Unknown,
     }
 }
 
@@ -137,11 +111,9 @@ fn negate_of(a: Scalar) -> Scalar
     ensures { result ≡ negate_c a }
 {
     match a {
-        Scalar::Unknown => Scalar::Unknown,
-        Scalar::Truth(_) => Scalar::Unknown,
         Scalar::Int(n) => values::integer(minus(n)),
         Scalar::Real(n) => values::real(minus(n)),
-        Scalar::Text(_) => Scalar::Unknown,
+        _ => Scalar::Unknown,
     }
 }
 

@@ -1,6 +1,6 @@
 -- The comparison operators: the code's row of the table is the definitions', by what comp comes to.
 use mathlib.Core.Path.{◌≡◌, refl, sym, ap, ◌∙◌}
-use mathlib.Core.Bool.{Bool, false}
+use mathlib.Core.Bool.{Bool}
 use mathlib.Core.List.{List, [], ◌∷◌}
 use Prim.Native.Nat.{ℕ}
 use Rattle.paper_expressions.specs.Values.{truth, one}

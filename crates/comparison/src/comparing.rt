@@ -1,58 +1,36 @@
 // comp (11.1.3): of any two values.
-ghost use Rattle.std.specs.Prelude.{◌≡◌, List as Seq, ℕ};
-ghost use Rattle.paper_expressions.proofs.Laws.Compare.{comp_f, comp_s, kind_s, number, string, comp_l};
+ghost use Rattle.std.specs.Prelude.{◌≡◌};
+ghost use Rattle.paper_expressions.proofs.Laws.Compare.{comp_f, comp_s, kind_s, comp_l};
 ghost use Rattle.numbers.specs.Signs.{verdict};
-ghost use Rattle.values.specs.Meaning.{meaning, meaning_l, meaning_v, bytes_of, beside, goes_on_fn, end_of, size_of};
+ghost use Rattle.values.specs.Meaning.{meaning, meaning_l, meaning_v, goes_on_fn, end_of, size_of};
 
-use numbers::{Sign, Wide};
-use values::{Handle, List, Scalar, Value};
+use numbers::Sign;
+use values::{List, Scalar, Value};
 
-// What is neither number nor text compares with unknown alone.
-fn comp_other(b: Scalar) -> Sign
-    ensures { result ≡ beside b }
-{
-    match b {
-        Scalar::Unknown => Sign::Unknown,
-        Scalar::Truth(_) => Sign::Unfit,
-        Scalar::Int(_) => Sign::Unfit,
-        Scalar::Real(_) => Sign::Unfit,
-        Scalar::Text(_) => Sign::Unfit,
-    }
-}
-
-fn comp_number(x: Wide, b: Scalar) -> Sign
-    ensures { (bs : Seq ℕ) → result ≡ verdict (comp_s (number x.z) (kind_s (meaning bs b))) }
-{
-    match b {
-        Scalar::Unknown => Sign::Unknown,
-        Scalar::Truth(_) => Sign::Unfit,
-        Scalar::Int(y) => numbers::order(x, numbers::thousandths(y)),
-        Scalar::Real(y) => numbers::order(x, numbers::wide_of(y)),
-        Scalar::Text(_) => Sign::Unfit,
-    }
-}
-
-fn comp_text(bytes: &[u8], h: Handle, b: Scalar) -> Sign
-    ensures { result ≡ verdict (comp_s (string (bytes_of bytes.now h)) (kind_s (meaning bytes.now b))) }
-{
-    match b {
-        Scalar::Unknown => Sign::Unknown,
-        Scalar::Truth(_) => Sign::Unfit,
-        Scalar::Int(_) => Sign::Unfit,
-        Scalar::Real(_) => Sign::Unfit,
-        Scalar::Text(k) => values::text_order(bytes, h, k),
-    }
-}
-
+// Unknown beside anything is unknown; a number compares with a number, and a text with a text.
 pub fn comp_scalars(bytes: &[u8], a: Scalar, b: Scalar) -> Sign
     ensures { result ≡ verdict (comp_s (kind_s (meaning bytes.now a)) (kind_s (meaning bytes.now b))) }
 {
-    match a {
-        Scalar::Unknown => Sign::Unknown,
-        Scalar::Truth(_) => comp_other(b),
-        Scalar::Int(x) => comp_number(numbers::thousandths(x), b),
-        Scalar::Real(x) => comp_number(numbers::wide_of(x), b),
-        Scalar::Text(h) => comp_text(bytes, h, b),
+    match (a, b) {
+        (Scalar::Unknown, _) | (_, Scalar::Unknown) => Sign::Unknown,
+        (Scalar::Int(x), Scalar::Int(y)) => numbers::order(
+            numbers::thousandths(x),
+            numbers::thousandths(y),
+        ),
+        (Scalar::Int(x), Scalar::Real(y)) => numbers::order(
+            numbers::thousandths(x),
+            numbers::wide_of(y),
+        ),
+        (Scalar::Real(x), Scalar::Int(y)) => numbers::order(
+            numbers::wide_of(x),
+            numbers::thousandths(y),
+        ),
+        (Scalar::Real(x), Scalar::Real(y)) => numbers::order(
+            numbers::wide_of(x),
+            numbers::wide_of(y),
+        ),
+        (Scalar::Text(g), Scalar::Text(h)) => values::text_order(bytes, g, h),
+        _ => Sign::Unfit,
     }
 }
 
@@ -60,13 +38,7 @@ pub fn comp_scalars(bytes: &[u8], a: Scalar, b: Scalar) -> Sign
 fn goes_on(s: Sign) -> bool
     ensures { result ≡ goes_on_fn s }
 {
-    match s {
-        Sign::Greater => false,
-        Sign::Less => false,
-        Sign::Equal => true,
-        Sign::Unknown => true,
-        Sign::Unfit => false,
-    }
+    matches!(s, Sign::Equal | Sign::Unknown)
 }
 
 fn comp_lists(bytes: &[u8], l: List, m: List) -> Sign
@@ -74,8 +46,7 @@ fn comp_lists(bytes: &[u8], l: List, m: List) -> Sign
 {
     let n = values::size(l);
     let k = values::size(m);
-    let mut i = 0;
-    while i < n {
+    for i in 0..n {
         if k <= i {
             return Sign::Greater;
         }
@@ -83,12 +54,8 @@ fn comp_lists(bytes: &[u8], l: List, m: List) -> Sign
         if !goes_on(s) {
             return s;
         }
-        i += 1;
     }
-    if i < k {
-        return Sign::Less;
-    }
-    Sign::Equal
+    if n < k { Sign::Less } else { Sign::Equal }
 }
 
 // A list beside a scalar: unknown, or `end` if the list is empty, or no clause.
@@ -96,29 +63,21 @@ fn comp_beside(l: List, b: Scalar, end: Sign) -> Sign
     ensures { result ≡ end_of (size_of l) b end }
 {
     if values::is_unknown(b) {
-        return Sign::Unknown;
+        Sign::Unknown
+    } else if values::size(l) == 0 {
+        end
+    } else {
+        Sign::Unfit
     }
-    if values::size(l) == 0 {
-        return end;
-    }
-    Sign::Unfit
 }
 
 pub fn comp(bytes: &[u8], a: Value, b: Value) -> Sign
     ensures { result ≡ verdict (comp_f (meaning_v bytes.now a) (meaning_v bytes.now b)) }
 {
-    let s = a.one;
-    let t = b.one;
-    let l = a.list;
-    let m = b.list;
-    if a.many {
-        if b.many {
-            return comp_lists(bytes, l, m);
-        }
-        return comp_beside(l, t, Sign::Less);
+    match (a.many, b.many) {
+        (true, true) => comp_lists(bytes, a.list, b.list),
+        (true, false) => comp_beside(a.list, b.one, Sign::Less),
+        (false, true) => comp_beside(b.list, a.one, Sign::Greater),
+        (false, false) => comp_scalars(bytes, a.one, b.one),
     }
-    if b.many {
-        return comp_beside(m, s, Sign::Greater);
-    }
-    comp_scalars(bytes, s, t)
 }

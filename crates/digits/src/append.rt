@@ -8,9 +8,10 @@ pub fn byte(b: u8, out: &mut [u8], o: usize) -> usize
 {
     if o < out.len() {
         out[o] = b;
-        return o + 1;
+        o + 1
+    } else {
+        o
     }
-    o
 }
 
 // Some bytes.
@@ -18,10 +19,8 @@ pub fn word(w: &[u8], out: &mut [u8], o: usize) -> usize
     ensures { Appends out.old out.new o result w.now }
 {
     let mut p = o;
-    let mut i = 0;
-    while i < w.len() {
-        p = byte(w[i], out, p);
-        i += 1;
+    for b in w {
+        p = byte(*b, out, p);
     }
     p
 }

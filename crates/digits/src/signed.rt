@@ -12,24 +12,14 @@ use numbers::Num;
 fn magnitude(n: Num) -> usize
     ensures { result ≡ nat_abs n.z }
 {
-    let w = numbers::wide_of(n);
-    let z = w.z;
-    if z < 0 {
-        return (0 - z) as usize;
-    }
-    z as usize
+    n.z.unsigned_abs() as usize
 }
 
 // A minus, or nothing.
 fn sign(n: Num, out: &mut [u8], o: usize) -> usize
     ensures { Appends out.old out.new o result (sign_of n.z) }
 {
-    let w = numbers::wide_of(n);
-    let z = w.z;
-    if z < 0 {
-        return byte(b'-', out, o);
-    }
-    o
+    if n.z < 0 { byte(b'-', out, o) } else { o }
 }
 
 // An integer in digits.

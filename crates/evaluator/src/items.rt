@@ -57,9 +57,7 @@ fn elements(tags: &[u32], nums: &[u32], p: usize, n: usize) -> List
     ensures { ElementsOf tags.now nums.now p n result }
 {
     let mut l = operands::blank(n);
-    let mut k = n;
-    while 0 < k {
-        k -= 1;
+    for k in (0..n).rev() {
         l = operands::put_at(l, k, cell(tags, nums, p + k));
     }
     l
@@ -74,11 +72,9 @@ pub fn value(tags: &[u32], nums: &[u32], i: usize) -> Value
     }
     let p = CELLS * i;
     let shape = parts::number(tags, p);
-    if shape == 0 {
-        return values::single(cell(tags, nums, p + 1));
+    match shape {
+        0 => values::single(cell(tags, nums, p + 1)),
+        1..=CELLS => values::many(elements(tags, nums, p + 1, shape - 1)),
+        _ => values::single(Scalar::Unknown),
     }
-    if CELLS < shape {
-        return values::single(Scalar::Unknown);
-    }
-    values::many(elements(tags, nums, p + 1, shape - 1))
 }

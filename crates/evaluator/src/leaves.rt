@@ -11,9 +11,10 @@ fn atom(h: usize, bytes: &[u8], names: &[u32], tags: &[u32], nums: &[u32]) -> Va
 {
     let i = parts::names::find(bytes, names, h);
     if i < names.len() {
-        return items::value(tags, nums, i);
+        items::value(tags, nums, i)
+    } else {
+        values::single(Scalar::Text(values::handle_of(h)))
     }
-    values::single(Scalar::Text(values::handle_of(h)))
 }
 
 // Clauses 1 to 3, by the code of the part and its load. A constant's code is its tag.
@@ -28,7 +29,8 @@ pub fn leaf(
     ensures { LeafOf bytes.now names.now tags.now nums.now kind load result }
 {
     if kind == Code::ATOM {
-        return atom(load as usize, bytes, names, tags, nums);
+        atom(load as usize, bytes, names, tags, nums)
+    } else {
+        values::single(items::scalar(kind, load))
     }
-    values::single(items::scalar(kind, load))
 }

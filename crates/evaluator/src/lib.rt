@@ -31,13 +31,10 @@ fn compound(
     ensures { CompoundOf bytes.now tasks.now states.now kind n o result }
 {
     if kind == Code::LIST {
-        let list = o.list;
-        return values::many(list);
+        values::many(o.list)
+    } else {
+        apply::applied(bytes, tasks, states, kind, n, o.first, o.second, o.third)
     }
-    let a = o.first;
-    let b = o.second;
-    let c = o.third;
-    apply::applied(bytes, tasks, states, kind, n, a, b, c)
 }
 
 // The values of the `n` operands that end at `p`, from the last to the first, each evaluated once.
@@ -59,9 +56,7 @@ fn gather(
 {
     let mut o = operands::none(n);
     let mut q = p;
-    let mut k = n;
-    while 0 < k {
-        k -= 1;
+    for k in (0..n).rev() {
         let v = part_value(cells, bytes, names, tags, nums, tasks, states, q, depth - 1);
         o = operands::put(k, v, o);
         q = parts::back(cells, q);
@@ -84,10 +79,7 @@ fn part_value(
 ) -> Value
     ensures { Valued (table cells.now bytes.now) (columns names.now tags.now nums.now tasks.now states.now) end depth result }
 {
-    if end == 0 {
-        return values::single(Scalar::Unknown);
-    }
-    if depth == 0 {
+    if end == 0 || depth == 0 {
         return values::single(Scalar::Unknown);
     }
     let p = end - 1;

@@ -18,20 +18,18 @@ pub struct Operands {
 pub fn blank(n: usize) -> List
     ensures { (result.n ≡ n) × (length result.items ≡ list_limit) }
 {
-    let l = values::empty();
-    let items = l.items;
-    List { n: n, items: items }
+    List {
+        n,
+        ..values::empty()
+    }
 }
 
 // The list with s in the k-th place, if there is one.
-pub fn put_at(l: List, k: usize, s: Scalar) -> List
+pub fn put_at(mut l: List, k: usize, s: Scalar) -> List
     ensures { k < list_limit → Put k s l result }
 {
     if k < List::LIST_LIMIT {
-        let n = l.n;
-        let mut items = l.items;
-        items[k] = Cell { s: s };
-        return List { n: n, items: items };
+        l.items[k] = Cell { s };
     }
     l
 }
@@ -40,13 +38,12 @@ pub fn put_at(l: List, k: usize, s: Scalar) -> List
 pub fn none(n: usize) -> Operands
     ensures { NoneOf n result }
 {
-    let list = blank(n);
     let u = values::single(Scalar::Unknown);
     Operands {
         first: u,
         second: u,
         third: u,
-        list: list,
+        list: blank(n),
     }
 }
 
@@ -54,14 +51,10 @@ pub fn none(n: usize) -> Operands
 pub fn put(k: usize, v: Value, o: Operands) -> Operands
     ensures { PutOf k v o result }
 {
-    let first = o.first;
-    let second = o.second;
-    let l = o.list;
-    let list = put_at(l, k, values::scalar_of(v));
     Operands {
         first: v,
-        second: first,
-        third: second,
-        list: list,
+        second: o.first,
+        third: o.second,
+        list: put_at(o.list, k, values::scalar_of(v)),
     }
 }

@@ -7,38 +7,34 @@ ghost use Rattle.numbers.specs.Signs.{signed};
 
 use crate::number::{Num, Wide, wide_of};
 use crate::sign::Sign;
+use std::cmp::Ordering;
 
 pub fn sum(a: Wide, b: Wide) -> Wide
     requires { (nat_abs a.z ≤ 2 ^ 61) × (nat_abs b.z ≤ 2 ^ 61) }
     ensures { result.z ≡ a.z +ℤ b.z }
 {
-    let x = a.z;
-    let y = b.z;
-    Wide { z: x + y }
+    Wide { z: a.z + b.z }
 }
 
 pub fn difference(a: Wide, b: Wide) -> Wide
     requires { (nat_abs a.z ≤ 2 ^ 61) × (nat_abs b.z ≤ 2 ^ 61) }
     ensures { result.z ≡ a.z -ℤ b.z }
 {
-    let x = a.z;
-    let y = b.z;
-    Wide { z: x - y }
+    Wide { z: a.z - b.z }
 }
 
 pub fn product(a: Num, b: Num) -> Wide
     ensures { (result.z ≡ a.z *ℤ b.z) × (nat_abs result.z ≤ 2 ^ 62) }
 {
-    let x = wide_of(a);
-    let y = wide_of(b);
-    Wide { z: x.z * y.z }
+    Wide {
+        z: wide_of(a).z * wide_of(b).z,
+    }
 }
 
 pub fn is_zero(w: Wide) -> bool
     ensures { result ≡ zero_z w.z }
 {
-    let z = w.z;
-    z == 0
+    w.z == 0
 }
 
 // The quotient, cut toward zero: for real products and for quotients.
@@ -46,21 +42,15 @@ pub fn cut(n: Wide, d: Wide) -> Wide
     requires { (nat_abs n.z ≤ 2 ^ 62) × (zero_z d.z ≡ false) }
     ensures { result.z ≡ paper.cut n.z d.z }
 {
-    let x = n.z;
-    let y = d.z;
-    Wide { z: x / y }
+    Wide { z: n.z / d.z }
 }
 
 pub fn order(a: Wide, b: Wide) -> Sign
     ensures { result ≡ signed (order_z a.z b.z) }
 {
-    let x = a.z;
-    let y = b.z;
-    if y < x {
-        return Sign::Greater;
+    match a.z.cmp(&b.z) {
+        Ordering::Greater => Sign::Greater,
+        Ordering::Less => Sign::Less,
+        Ordering::Equal => Sign::Equal,
     }
-    if x < y {
-        return Sign::Less;
-    }
-    Sign::Equal
 }

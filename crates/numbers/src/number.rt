@@ -4,7 +4,7 @@ ghost use Rattle.paper_expressions.specs.Limits.{integer_limit, real_limit};
 ghost use Rattle.paper_expressions.specs.Values.{unit};
 
 // An integer, or a real as a whole number of thousandths.
-#[derive(Clone, Copy)]
+#[derive(Clone, Copy, PartialEq, Eq)]
 pub struct Num {
     pub z: i32,
 }
@@ -20,7 +20,7 @@ impl Num {
 }
 
 // A number on its way, with room for sums, products and quotients.
-#[derive(Clone, Copy)]
+#[derive(Clone, Copy, PartialEq, Eq)]
 pub struct Wide {
     pub z: i64,
 }
@@ -28,16 +28,16 @@ pub struct Wide {
 pub fn wide_of(n: Num) -> Wide
     ensures { (result.z ≡ n.z) × (nat_abs result.z ≤ 2 ^ 31) }
 {
-    let z = n.z;
-    Wide { z: z as i64 }
+    Wide { z: i64::from(n.z) }
 }
 
 // An integer in thousandths.
 pub fn thousandths(n: Num) -> Wide
     ensures { (result.z ≡ n.z *ℤ unit) × (nat_abs result.z ≤ 2 ^ 41) }
 {
-    let w = wide_of(n);
-    Wide { z: w.z * Num::UNIT }
+    Wide {
+        z: i64::from(n.z) * Num::UNIT,
+    }
 }
 
 // A thousand times a number of thousandths.
@@ -45,34 +45,19 @@ pub fn scaled(w: Wide) -> Wide
     requires { nat_abs w.z ≤ 2 ^ 41 }
     ensures { (result.z ≡ w.z *ℤ unit) × (nat_abs result.z ≤ 2 ^ 62) }
 {
-    let z = w.z;
-    Wide { z: z * Num::UNIT }
+    Wide { z: w.z * Num::UNIT }
 }
 
 pub fn integer_fits(w: Wide) -> bool
     ensures { result ≡ leb (nat_abs w.z) integer_limit }
 {
-    let z = w.z;
-    if z < -Num::INTEGER_LIMIT {
-        return false;
-    }
-    if Num::INTEGER_LIMIT < z {
-        return false;
-    }
-    true
+    (-Num::INTEGER_LIMIT..=Num::INTEGER_LIMIT).contains(&w.z)
 }
 
 pub fn real_fits(w: Wide) -> bool
     ensures { result ≡ leb (nat_abs w.z) real_limit }
 {
-    let z = w.z;
-    if z < -Num::REAL_LIMIT {
-        return false;
-    }
-    if Num::REAL_LIMIT < z {
-        return false;
-    }
-    true
+    (-Num::REAL_LIMIT..=Num::REAL_LIMIT).contains(&w.z)
 }
 
 // What is within a limit, as values hold it.
@@ -80,6 +65,5 @@ pub fn narrow(w: Wide) -> Num
     requires { nat_abs w.z ≤ real_limit }
     ensures { result.z ≡ w.z }
 {
-    let z = w.z;
-    Num { z: z as i32 }
+    Num { z: w.z as i32 }
 }

@@ -1,5 +1,5 @@
 // What comp answers: 1, -1, 0, unknown, or that no clause of it fits.
-#[derive(Clone, Copy)]
+#[derive(Clone, Copy, PartialEq, Eq)]
 pub enum Sign {
     Greater,
     Less,

@@ -13,8 +13,8 @@ use Rattle.values.specs.declared.scalar.Scalar.{Scalar}
 use Rattle.values.specs.declared.scalar.Scalar.TheVariants.{Unknown, Truth, Int, Real, Text}
 use Rattle.values.specs.declared.value.Value as Code
 use Rattle.values.specs.Meaning.{meaning, meaning_l, meaning_v, valued, scalar_of, unknownb}
-use Rattle.operators.specs.Means.{meanings}
-use Rattle.operators.specs.Comes.{given, comes}
+use Rattle.operators.specs.Means.{Means, meanings}
+use Rattle.operators.specs.Comes.{given, comes, means, single_is}
 use Rattle.operators.specs.Twins.{true_c, false_c}
 
 -- a test that picks a clause
@@ -41,6 +41,13 @@ module _ (bs : List ℕ) (a b : Code.Value) (t : Bool) where
   pub or_comes : t ≡ (true_c (scalar_of a) || true_c (scalar_of b)) → one (truth t) ≡ comes section-11.or (meanings bs (a ∷ b ∷ []))
   or_comes e =
       ap (λ (x : Bool). one (truth x)) (e ∙ ap₂ ◌||◌ (true_is bs a) (true_is bs b)) ∙ picked (is_true_fn (meaning_v bs a) || is_true_fn (meaning_v bs b)) _ _
+
+module _ (bs : List ℕ) (a b r : Code.Value) {t : Bool} (h : (r.many ≡ false) × (r.one ≡ Truth t)) where
+  pub and_means : t ≡ (true_c (scalar_of a) && true_c (scalar_of b)) → Means bs section-11.and (a ∷ b ∷ []) r
+  and_means e = means bs section-11.and (a ∷ b ∷ []) r tt (single_is bs r h ∙ and_comes bs a b t e)
+
+  pub or_means : t ≡ (true_c (scalar_of a) || true_c (scalar_of b)) → Means bs section-11.or (a ∷ b ∷ []) r
+  or_means e = means bs section-11.or (a ∷ b ∷ []) r tt (single_is bs r h ∙ or_comes bs a b t e)
 
 pub not_comes : (bs : List ℕ) (a : Code.Value) {t : Bool} → t ≡ false_c (scalar_of a) → one (truth t) ≡ comes section-11.not (meanings bs (a ∷ []))
 not_comes bs a e = ap (λ (x : Bool). one (truth x)) e ∙ go a.many a.one (meaning_l bs a.list)

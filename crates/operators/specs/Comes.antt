@@ -1,7 +1,7 @@
 -- Law: to be what an operator gives, it is enough to mean what the operator's function comes to. By the definitions' own law that the
 -- clause that fits is the function's; of the operators here none but the four states reads the Properties table, so an empty one serves.
-use Rattle.std.specs.Prelude.{◌≡◌, refl, Bool, true, false, cond, List, [], ◌∷◌, ℕ, T}
-use Rattle.std.proofs.Common.{sym, ap, ◌∙◌}
+use Rattle.std.specs.Prelude.{◌≡◌, refl, Bool, true, false, cond, List, [], ℕ, T}
+use Rattle.std.proofs.Common.{ap, ◌∙◌}
 use Rattle.paper_expressions.specs.Values as paper
 use Rattle.paper_expressions.specs.Values.{Value, one, sequence}
 use Rattle.paper_expressions.specs.Clauses.{Clause}

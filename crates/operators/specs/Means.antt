@@ -1,6 +1,6 @@
 -- What it is for a value of the code to be what an operator gives: whatever clause of section 11 fits the operands, the value means what
 -- that clause gives. Definitions only.
-use Rattle.std.specs.Prelude.{◌≡◌, List, [], ◌∷◌, map, ℕ}
+use Rattle.std.specs.Prelude.{◌≡◌, List, map, ℕ}
 use Rattle.paper_expressions.specs.Values as paper
 use Rattle.paper_expressions.specs.Clauses.{Clause}
 use Rattle.paper_expressions.specs.View.{View}

@@ -1,12 +1,12 @@
 // The operators that come in families.
-#[derive(Drop)]
+#[derive(Clone, Copy, PartialEq, Eq)]
 pub enum Arithmetic {
     Plus,
     Minus,
     Times,
 }
 
-#[derive(Drop)]
+#[derive(Clone, Copy, PartialEq, Eq)]
 pub enum Comparison {
     Greater,
     Less,
@@ -16,7 +16,7 @@ pub enum Comparison {
     NotEqual,
 }
 
-#[derive(Clone, Copy)]
+#[derive(Clone, Copy, PartialEq, Eq)]
 pub enum Extreme {
     Max,
     Min,

@@ -9,64 +9,40 @@ use values::{Scalar, Value};
 pub fn is_true(s: Scalar) -> bool
     ensures { result ≡ true_c s }
 {
-    match s {
-        Scalar::Unknown => false,
-        Scalar::Truth(b) => b,
-        Scalar::Int(_) => false,
-        Scalar::Real(_) => false,
-        Scalar::Text(_) => false,
-    }
+    matches!(s, Scalar::Truth(true))
 }
 
 fn is_false(s: Scalar) -> bool
     ensures { result ≡ false_c s }
 {
-    match s {
-        Scalar::Unknown => false,
-        Scalar::Truth(b) => !b,
-        Scalar::Int(_) => false,
-        Scalar::Real(_) => false,
-        Scalar::Text(_) => false,
-    }
+    matches!(s, Scalar::Truth(false))
 }
 
 pub fn and(a: Value, b: Value) -> Value
     ensures { (bs : Seq ℕ) → Means bs paper.and (a ∷ b ∷ []) result }
 {
-    if is_true(values::scalar_of(a)) {
-        let t = is_true(values::scalar_of(b));
-        return values::single(Scalar::Truth(t));
-    }
-    values::single(Scalar::Truth(false))
+    let t = is_true(values::scalar_of(a)) && is_true(values::scalar_of(b));
+    values::single(Scalar::Truth(t))
 }
 
 pub fn or(a: Value, b: Value) -> Value
     ensures { (bs : Seq ℕ) → Means bs paper.or (a ∷ b ∷ []) result }
 {
-    if is_true(values::scalar_of(a)) {
-        return values::single(Scalar::Truth(true));
-    }
-    let t = is_true(values::scalar_of(b));
+    let t = is_true(values::scalar_of(a)) || is_true(values::scalar_of(b));
     values::single(Scalar::Truth(t))
 }
 
 pub fn not(a: Value) -> Value
     ensures { (bs : Seq ℕ) → Means bs paper.not (a ∷ []) result }
 {
-    let t = is_false(values::scalar_of(a));
-    values::single(Scalar::Truth(t))
+    values::single(Scalar::Truth(is_false(values::scalar_of(a))))
 }
 
 // As printed: true when the argument is unknown.
 pub fn isknown(a: Value) -> Value
     ensures { (bs : Seq ℕ) → Means bs paper.isknown (a ∷ []) result }
 {
-    if a.many {
-        return values::single(Scalar::Truth(false));
-    }
-    let s = a.one;
-    let t = values::is_unknown(s);
-    values::single(Scalar::Truth(t))
+    values::single(Scalar::Truth(!a.many && values::is_unknown(a.one)))
 }
 
 pub fn if_else(a: Value, b: Value, c: Value) -> Value
@@ -74,10 +50,10 @@ pub fn if_else(a: Value, b: Value, c: Value) -> Value
 {
     let s = values::scalar_of(a);
     if is_true(s) {
-        return b;
+        b
+    } else if is_false(s) {
+        c
+    } else {
+        values::single(Scalar::Unknown)
     }
-    if is_false(s) {
-        return c;
-    }
-    values::single(Scalar::Unknown)
 }

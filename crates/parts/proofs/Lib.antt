@@ -1,2 +1,1 @@
-mod Signed
 pub mod OneTree

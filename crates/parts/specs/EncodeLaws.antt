@@ -6,7 +6,7 @@ use Rattle.paper_expressions.specs.Limits.{text_limit}
 use Rattle.paper_expressions.specs.Operators.{Op, arithmetic, divide, compare, and, or, includes, oneof, if, negate, isknown, not, count, sum, extreme, nth, is-in, no_such}
 use Rattle.paper_expressions.specs.Expressions.{Expr, Exprs, Atom, IntegerLit, FloatLit, StringLit, Paren, Listing, Apply, ε, ◌▸◌}
 use Rattle.parts.specs.Codes.{code}
-use Rattle.parts.specs.Texts.{cells, handle, text_at_fn, text_of, literal, moved, literal_moved}
+use Rattle.parts.specs.Texts.{cells, handle, text_at_fn, text_of, literal, literal_moved}
 use Rattle.parts.specs.Part.{Table, table, size, sizes, number_of, OpLoad, Holds, HoldsAll}
 use Rattle.parts.specs.Encode.{Part, part, flat, name, name_load, spelling, spellings, encode, encodes, Fits, AllFit, Stands, Spelt, Is, Laid}
 

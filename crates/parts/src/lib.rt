@@ -34,10 +34,7 @@ pub const HANDLE: usize = 64;
 pub fn word(col: &[u32], i: usize) -> u32
     ensures { result ≡ get_or col.now i 0 }
 {
-    if i < col.len() {
-        return col[i];
-    }
-    0
+    col.get(i).copied().unwrap_or(0)
 }
 
 // A cell of a slice of numbers.
@@ -51,10 +48,7 @@ pub fn number(col: &[u32], i: usize) -> usize
 pub fn byte(col: &[u8], i: usize) -> u8
     ensures { result ≡ get_or col.now i 0 }
 {
-    if i < col.len() {
-        return col[i];
-    }
-    0
+    col.get(i).copied().unwrap_or(0)
 }
 
 // The cell `k` of the row `p`.
@@ -63,9 +57,10 @@ fn cell(cells: &[u32], p: usize, k: usize) -> u32
     ensures { result ≡ get_or cells.now (p * 4 + k) 0 }
 {
     if cells.len() / Row::CELLS < p {
-        return 0;
+        0
+    } else {
+        word(cells, p * Row::CELLS + k)
     }
-    word(cells, p * Row::CELLS + k)
 }
 
 // What the part `p` is, by its number.
@@ -101,18 +96,15 @@ pub fn back(cells: &[u32], q: usize) -> usize
     ensures { result ≡ q - get_or cells.now ((q - 1) * 4 + 2) 0 }
 {
     if q == 0 {
-        return 0;
+        0
+    } else {
+        q.saturating_sub(size(cells, q - 1))
     }
-    let s = size(cells, q - 1);
-    if q < s {
-        return 0;
-    }
-    q - s
 }
 
 // The integer, or the thousandths of the float, that a load stands for.
 pub fn literal(x: u32) -> i64
     ensures { result ≡ literalOf x }
 {
-    x as i64 - Num::REAL_LIMIT
+    i64::from(x) - Num::REAL_LIMIT
 }

@@ -6,34 +6,20 @@ ghost use Rattle.paper_expressions.proofs.Laws.Search.{alikeb};
 ghost use Rattle.parts.specs.Texts.{cells};
 ghost use Rattle.parts.specs.Items.{Found};
 
-use super::{HANDLE, number};
-
-// How far a small letter stands behind its capital.
-const CASE: u8 = b'a' - b'A';
+use super::{HANDLE, byte};
 
 // A to Z as a to z.
 pub fn lower(a: u8) -> u8
     ensures { result ≡ fold a }
 {
-    if b'A' <= a {
-        if a <= b'Z' {
-            return a + CASE;
-        }
-    }
-    a
+    a.to_ascii_lowercase()
 }
 
 // The byte `i` of the text from `x` on.
 pub fn at(bytes: &[u8], x: usize, i: usize) -> u8
     ensures { result ≡ get_or bytes.now (x + i) 0 }
 {
-    if bytes.len() <= x {
-        return 0;
-    }
-    if bytes.len() - x <= i {
-        return 0;
-    }
-    bytes[x + i]
+    byte(bytes, x.saturating_add(i))
 }
 
 // The same, A to Z as a to z.
@@ -50,12 +36,10 @@ pub fn alike(bytes: &[u8], x: usize, n: usize, y: usize, m: usize) -> bool
     if n != m {
         return false;
     }
-    let mut i = 0;
-    while i < n {
+    for i in 0..n {
         if letter(bytes, x, i) != letter(bytes, y, i) {
             return false;
         }
-        i += 1;
     }
     true
 }
@@ -64,13 +48,11 @@ pub fn alike(bytes: &[u8], x: usize, n: usize, y: usize, m: usize) -> bool
 pub fn find(bytes: &[u8], names: &[u32], h: usize) -> usize
     ensures { Found bytes.now names.now h result }
 {
-    let mut i = 0;
-    while i < names.len() {
-        let x = number(names, i);
+    for (i, name) in names.iter().enumerate() {
+        let x = *name as usize;
         if alike(bytes, x / HANDLE, x % HANDLE, h / HANDLE, h % HANDLE) {
             return i;
         }
-        i += 1;
     }
-    i
+    names.len()
 }

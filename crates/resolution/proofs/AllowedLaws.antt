@@ -1,6 +1,5 @@
 -- Law: the choice among the allowed types that the letters of Allowed.antt say is rule 10's, for every operator and operands. By one computed test for each operator's list.
-use Rattle.std.specs.Prelude.{◌≡◌, refl, cond, List, [], ℕ, ◌/◌, ◌<◌, ◌≤◌, eqb, T, length}
-use Rattle.paper_expressions.specs.Bytes.{bytes}
+use Rattle.std.specs.Prelude.{◌≡◌, refl, List, ℕ, ◌/◌, ◌<◌, ◌≤◌, T, length}
 use Rattle.paper_expressions.specs.Types.{Ty}
 use Rattle.paper_expressions.specs.Values.{dormant, in_progress, discarded, completed}
 use Rattle.paper_expressions.specs.Operators.{plus, minus, times, is>, is<, is>=, is<=, is=, is!=, max, min, ◌⇒◌, allowed}

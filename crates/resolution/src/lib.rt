@@ -8,21 +8,11 @@ ghost use Rattle.resolution.specs.Allowed.{function_of, list_of};
 
 use parts::Family;
 
-// The letters of an allowed type, and where the result stands among them.
-const ENTRY: usize = 4;
-
-const RESULT: usize = 3;
-
 // What setof_anything can be promoted to.
 fn is_set(u: u8) -> bool
     ensures { result ≡ set_of u }
 {
-    match u {
-        b't' => true,
-        b'i' => true,
-        b'r' => true,
-        _ => false,
-    }
+    matches!(u, b't' | b'i' | b'r')
 }
 
 // 4.2: whether the type `x` can be promoted to `u`.
@@ -41,41 +31,19 @@ fn promotes(x: u8, u: u8) -> bool
 pub fn meets(x: u8, u: u8, promoted: bool) -> bool
     ensures { result ≡ meets_of promoted x u }
 {
-    if x == u {
-        return true;
-    }
-    if promoted {
-        return promotes(x, u);
-    }
-    false
-}
-
-// Whether three operands meet the entry at `i`.
-fn entry_met(list: &[u8], i: usize, x: u8, y: u8, z: u8, promoted: bool) -> bool
-    requires { i + 3 < length list.now }
-    ensures { result ≡ all_meet promoted (x ∷ y ∷ z ∷ []) (get_or list.now i 0 ∷ get_or list.now (i + 1) 0 ∷ get_or list.now (i + 2) 0 ∷ []) }
-{
-    if !meets(x, list[i], promoted) {
-        return false;
-    }
-    if !meets(y, list[i + 1], promoted) {
-        return false;
-    }
-    meets(z, list[i + 2], promoted)
+    x == u || (promoted && promotes(x, u))
 }
 
 // The result of the first entry that the operands meet, or 0.
 fn first(list: &[u8], x: u8, y: u8, z: u8, promoted: bool) -> u8
     ensures { result ≡ first_of promoted (x ∷ y ∷ z ∷ []) list.now }
 {
-    let n = list.len() / ENTRY;
-    let mut k = 0;
-    while k < n {
-        let i = k * ENTRY;
-        if entry_met(list, i, x, y, z, promoted) {
-            return list[i + RESULT];
+    let mut entries = list;
+    while let [a, b, c, result, rest @ ..] = entries {
+        if meets(x, *a, promoted) && meets(y, *b, promoted) && meets(z, *c, promoted) {
+            return *result;
         }
-        k += 1;
+        entries = rest;
     }
     0
 }
@@ -86,9 +54,10 @@ fn resolve(list: &[u8], x: u8, y: u8, z: u8) -> u8
 {
     let exact = first(list, x, y, z, false);
     if exact != 0 {
-        return exact;
+        exact
+    } else {
+        first(list, x, y, z, true)
     }
-    first(list, x, y, z, true)
 }
 
 // Section 11: the allowed types of each function and prefix operator, by the family of its number.

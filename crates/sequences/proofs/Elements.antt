@@ -2,7 +2,6 @@
 use mathlib.Core.Path.{◌≡◌, refl, sym, ap, ap₂, ◌∙◌}
 use mathlib.Core.Bool.{Bool, true, false, cond, not, ◌&&◌}
 use mathlib.Core.List.{List, [], ◌∷◌}
-use mathlib.Core.Option.{some, none}
 use Prim.Native.Nat.{ℕ, ◌<◌}
 use lib.Dec.{ltb}
 use lib.ListN.{get_or, length}
@@ -13,15 +12,14 @@ use Rattle.paper_expressions.specs.Operators as section-11
 use Rattle.paper_expressions.specs.Operators.{+1, -1, ±0, ±?, element, F, F-includes, F-oneof}
 use Rattle.paper_expressions.proofs.Laws.Compare.{Verdict, got, stuck, comp_s, kind_s, comp_f}
 use Rattle.paper_expressions.specs.Clauses.{§11·1·6-1, §11·1·6-2}
-use Rattle.paper_expressions.proofs.Laws.Search.{firstb, allb}
-use Rattle.paper_expressions.proofs.Laws.Only.{gives, suchb, fineb, zerob, missb, is_unknown, bestb, best_value, extreme_f, includes_f}
+use Rattle.paper_expressions.proofs.Laws.Only.{gives, suchb, fineb, zerob, missb, is_unknown, bestb, best_value, extreme_f}
 use Rattle.numbers.specs.declared.sign.Sign.{Sign}
 use Rattle.numbers.specs.Signs.{verdict}
 use Rattle.values.specs.declared.scalar.Scalar.{Scalar}
 use Rattle.values.specs.declared.scalar.Scalar.TheVariants.{Unknown, Truth, Int, Real, Text}
 use Rattle.values.specs.declared.list.List as Code
 use Rattle.values.specs.declared.value.Value.{Value}
-use Rattle.values.specs.Meaning.{meaning, meaning_l, meaning_v, valued, at, size_of, levelb, unknownb}
+use Rattle.values.specs.Meaning.{meaning, meaning_l, meaning_v, at, size_of, levelb, unknownb}
 use Rattle.values.proofs.Lists.{element_is, size_is}
 use Rattle.operators.specs.declared.operator.Extreme.{Extreme}
 use Rattle.operators.specs.declared.operator.Extreme.TheVariants.{Max, Min}

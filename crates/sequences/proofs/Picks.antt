@@ -2,16 +2,12 @@
 use mathlib.Core.Path.{◌≡◌, refl, sym, ap, ◌∙◌}
 use mathlib.Core.Bool.{true, false}
 use mathlib.Core.List.{List, [], ◌∷◌}
-use Prim.Native.Nat.{ℕ, zero, suc, ◌-◌, ◌≤◌, ◌<◌, ◌^◌}
+use Prim.Native.Nat.{ℕ, zero, suc, ◌-◌, ◌≤◌, ◌<◌}
 use native.Mathlib.Omega.{arith}
 use lib.IntN.{ℤ, pos, negsuc, nat_abs}
-use lib.Signed.{lt_z, non_neg}
-use lib.Dec.{T, ltb}
+use lib.Signed.{lt_z}
 use lib.ListN.{length}
-use mir.Syntax.{w64}
-use mir.Val.{SFits, to_z}
-use mir.Facts.{to_z-of_z}
-use borrow.Author.Tests.{ltb-true, lt-ltb, le-ltb, le-leb}
+use borrow.Author.Tests.{lt-ltb, le-leb}
 use Rattle.paper_expressions.specs.Limits.{integer_limit}
 use Rattle.paper_expressions.specs.Values as paper
 use Rattle.paper_expressions.specs.Values.{one, sequence}
@@ -29,9 +25,6 @@ use Rattle.operators.specs.Comes.{given, comes, lowered, lowered_is}
 
 -- ---- count
 
-pub small_is : (n : ℕ) → n ≤ 16 → to_z w64 n ≡ pos n
-small_is n h = to_z-of_z {w = w64} {z = pos n} (record { sfits = omega arith })
-
 length_is : (l : List paper.Scalar) → one (paper.integer (pos (length l))) ≡ given (count_f (sequence l))
 length_is [] = refl
 length_is (s ∷ l) = refl
@@ -47,24 +40,10 @@ count_scalar bs a e = sym (rw e)
 
 -- ---- nth: a number of at least 1 is one more than what it counts from 0
 
-pub low : (l : List paper.Scalar) (z : ℤ) → lt_z z (pos 1) ≡ true → one paper.unknown ≡ given (only.at l z)
-low l (pos zero) e = refl
-low l (pos (suc n)) e = absurd (let h = ltb-true (suc n) 1 e in let k : ⊥ = omega arith in k)
-low l (negsuc n) e = refl
-
-pub not_negative : (z : ℤ) → lt_z z (pos 1) ≡ false → T (non_neg z)
-not_negative (pos n) e = tt
-not_negative (negsuc n) e = absurd (no_clash (cc))
-
 counted : (z : ℤ) → lt_z z (pos 1) ≡ false → z ≡ pos (suc (nat_abs z - 1))
 counted (pos zero) e = absurd (no_clash (cc))
 counted (pos (suc n)) e = ap (λ (k : ℕ). pos (suc k)) (let h : n ≡ suc n - 1 = omega arith in h)
 counted (negsuc n) e = absurd (no_clash (cc))
-
-pub at_least_one : (z : ℤ) → lt_z z (pos 1) ≡ false → 1 ≤ nat_abs z
-at_least_one (pos zero) e = absurd (no_clash (cc))
-at_least_one (pos (suc n)) e = omega arith
-at_least_one (negsuc n) e = absurd (no_clash (cc))
 
 module _ (bs : List ℕ) (l : Code.List) (z : ℤ) {i : ℕ} (e : lt_z z (pos 1) ≡ false) (f : i ≡ nat_abs z - 1) where
   place : given (only.at (meaning_l bs l) (pos (suc i))) ≡ given (only.at (meaning_l bs l) z)
@@ -74,9 +53,6 @@ module _ (bs : List ℕ) (l : Code.List) (z : ℤ) {i : ℕ} (e : lt_z z (pos 1)
   picked h p =
       ap (λ (x : Scalar). one (meaning bs x)) p ∙ sym (ap one (element_is bs l i h))
       ∙ sym (rw (lt-ltb i (length (meaning_l bs l)) (omega (arith, size_is bs l)))) ∙ place
-
-  pub beyond : size_of l ≤ i → one paper.unknown ≡ given (only.at (meaning_l bs l) z)
-  beyond h = sym (rw (le-ltb i (length (meaning_l bs l)) (omega (arith, size_is bs l)))) ∙ place
 
 nth_lowered : (v : paper.Value) (l : List paper.Scalar) → given (nth_l (one (lowered v)) l) ≡ given (nth_l v l)
 nth_lowered (one s) l = refl

@@ -2,7 +2,7 @@
 -- them, no known one below it, and unknown only if none is known. Some clause fits every list, so the contract speaks of a value.
 use Rattle.std.specs.Prelude.{◌≡◌, List, [], ◌∷◌, ℕ, ◌<◌, length}
 use Rattle.std.proofs.Common.{sym, subst}
-use Rattle.std.proofs.Math.Option.{Option, some, none}
+use Rattle.std.proofs.Math.Option.{Option}
 use Rattle.paper_expressions.specs.Values.{Scalar, Value, sequence, IsSequence, is_sequence}
 use Rattle.paper_expressions.specs.Clauses.{Clause}
 use Rattle.paper_expressions.specs.Operators.{Extreme, min, extreme, Best, Extremal, extremal_1, extremal_2, F, F-extreme}

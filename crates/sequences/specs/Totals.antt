@@ -1,9 +1,8 @@
 -- What the code adds up of a list, and the sum that is left of it. Definitions only.
-use Rattle.std.specs.Prelude.{◌≡◌, Bool, true, false, cond, List, [], ◌∷◌, ℕ, ◌+◌, ◌≤◌, ◌^◌, ℤ, pos, nat_abs}
+use Rattle.std.specs.Prelude.{◌≡◌, Bool, true, false, cond, List, ◌∷◌, ℕ, ◌+◌, ◌≤◌, ◌^◌, ℤ, pos, nat_abs}
 use Rattle.std.proofs.Math.Option.{Option, none, some}
 use Rattle.paper_expressions.specs.Values as paper
 use Rattle.paper_expressions.proofs.Laws.Only.{integers_f, numbers_f}
-use Rattle.numbers.specs.declared.number.Wide.{Wide}
 use Rattle.values.specs.declared.scalar.Scalar.{Scalar}
 use Rattle.values.specs.declared.scalar.Scalar.TheVariants.{Unknown}
 use Rattle.values.specs.Meaning.{meaning, integer_of, real_of_fn}

@@ -48,48 +48,31 @@ fn step(s: Scalar, t: Total) -> Total
     requires { (nat_abs t.integers.z ≤ 2 ^ 60) × (nat_abs t.thousandths.z ≤ 2 ^ 60) }
     ensures { More s t result }
 {
-    let whole = t.whole;
-    let known = t.known;
-    let i = t.integers;
-    let k = t.thousandths;
     match s {
-        Scalar::Unknown => none(),
-        Scalar::Truth(_) => none(),
-        Scalar::Int(n) => {
-            let x = numbers::sum(numbers::wide_of(n), i);
-            let y = numbers::sum(numbers::thousandths(n), k);
-            Total {
-                whole: whole,
-                integers: x,
-                known: known,
-                thousandths: y,
-            }
-        }
-        Scalar::Real(n) => {
-            let y = numbers::sum(numbers::wide_of(n), k);
-            Total {
-                whole: false,
-                integers: i,
-                known: known,
-                thousandths: y,
-            }
-        }
-        Scalar::Text(_) => none(),
+        Scalar::Int(n) => Total {
+            integers: numbers::sum(numbers::wide_of(n), t.integers),
+            thousandths: numbers::sum(numbers::thousandths(n), t.thousandths),
+            ..t
+        },
+        Scalar::Real(n) => Total {
+            whole: false,
+            thousandths: numbers::sum(numbers::wide_of(n), t.thousandths),
+            ..t
+        },
+        _ => none(),
     }
 }
 
 fn finished(t: Total) -> Scalar
     ensures { result ≡ total_c t }
 {
-    let i = t.integers;
-    let k = t.thousandths;
     if t.whole {
-        return values::integer(i);
+        values::integer(t.integers)
+    } else if t.known {
+        values::real(t.thousandths)
+    } else {
+        Scalar::Unknown
     }
-    if t.known {
-        return values::real(k);
-    }
-    Scalar::Unknown
 }
 
 // From the last element to the first.
@@ -97,9 +80,7 @@ fn sum_of(l: List) -> Scalar
     ensures { (bs : Seq ℕ) → one (meaning bs result) ≡ given (sum_f (sequence (meaning_l bs l))) }
 {
     let mut t = start();
-    let mut i = values::size(l);
-    while 0 < i {
-        i -= 1;
+    for i in (0..values::size(l)).rev() {
         t = step(values::get(l, i), t);
     }
     finished(t)
@@ -108,9 +89,9 @@ fn sum_of(l: List) -> Scalar
 pub fn sum(a: Value) -> Value
     ensures { (bs : Seq ℕ) → Means bs paper.sum (a ∷ []) result }
 {
-    let l = a.list;
     if a.many {
-        return values::single(sum_of(l));
+        values::single(sum_of(a.list))
+    } else {
+        values::single(Scalar::Unknown)
     }
-    values::single(Scalar::Unknown)
 }

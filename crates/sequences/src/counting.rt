@@ -21,47 +21,43 @@ fn wide_count(n: usize) -> Wide
 pub fn count(a: Value) -> Value
     ensures { (bs : Seq ℕ) → Means bs paper.count (a ∷ []) result }
 {
-    let l = a.list;
     if a.many {
-        return values::single(values::integer(wide_count(values::size(l))));
+        values::single(values::integer(wide_count(values::size(a.list))))
+    } else {
+        values::single(Scalar::Unknown)
     }
-    values::single(Scalar::Unknown)
 }
 
 // The n-th of a list, counted from 1.
 fn pick(l: List, n: Num) -> Scalar
     ensures { (bs : Seq ℕ) → one (meaning bs result) ≡ given (at (meaning_l bs l) n.z) }
 {
-    let z = n.z;
-    if z < 1 {
+    if n.z < 1 {
         return Scalar::Unknown;
     }
-    let k = z as usize;
-    let i = k - 1;
+    let i = n.z as usize - 1;
     if i < values::size(l) {
-        return values::get(l, i);
+        values::get(l, i)
+    } else {
+        Scalar::Unknown
     }
-    Scalar::Unknown
 }
 
 fn nth_of(s: Scalar, l: List) -> Scalar
     ensures { (bs : Seq ℕ) → one (meaning bs result) ≡ given (nth_l (one (meaning bs s)) (meaning_l bs l)) }
 {
     match s {
-        Scalar::Unknown => Scalar::Unknown,
-        Scalar::Truth(_) => Scalar::Unknown,
         Scalar::Int(n) => pick(l, n),
-        Scalar::Real(_) => Scalar::Unknown,
-        Scalar::Text(_) => Scalar::Unknown,
+        _ => Scalar::Unknown,
     }
 }
 
 pub fn nth(a: Value, b: Value) -> Value
     ensures { (bs : Seq ℕ) → Means bs paper.nth (a ∷ b ∷ []) result }
 {
-    let l = b.list;
     if b.many {
-        return values::single(nth_of(values::scalar_of(a), l));
+        values::single(nth_of(values::scalar_of(a), b.list))
+    } else {
+        values::single(Scalar::Unknown)
     }
-    values::single(Scalar::Unknown)
 }

@@ -7,30 +7,20 @@ ghost use Rattle.paper_expressions.proofs.Laws.Only.{bestb, extreme_f};
 ghost use Rattle.values.specs.Meaning.{meaning, meaning_l, size_of};
 ghost use Rattle.operators.specs.Means.{Means, end};
 ghost use Rattle.operators.specs.Comes.{given};
-ghost use Rattle.sequences.specs.Tests.{maxb, fine_c, unbeatenb};
+ghost use Rattle.sequences.specs.Tests.{fine_c, unbeatenb};
 
 use numbers::Sign;
 use operators::Extreme;
 use values::{List, Scalar, Value};
-
-fn is_max(e: Extreme) -> bool
-    ensures { result ≡ maxb e }
-{
-    match e {
-        Extreme::Max => true,
-        Extreme::Min => false,
-    }
-}
 
 // Whether comp of an element and another leaves the first in place.
 fn fine(e: Extreme, s: Sign) -> bool
     ensures { result ≡ fine_c e s }
 {
     match s {
-        Sign::Greater => is_max(e),
-        Sign::Less => !is_max(e),
-        Sign::Equal => true,
-        Sign::Unknown => true,
+        Sign::Greater => e == Extreme::Max,
+        Sign::Less => e == Extreme::Min,
+        Sign::Equal | Sign::Unknown => true,
         Sign::Unfit => false,
     }
 }
@@ -40,15 +30,11 @@ fn unbeaten(bytes: &[u8], e: Extreme, l: List, i: usize) -> bool
     requires { i < size_of l }
     ensures { result ≡ unbeatenb (end e) (meaning_l bytes.now l) i }
 {
-    let n = values::size(l);
     let x = values::get(l, i);
-    let mut j = 0;
-    while j < n {
-        let s = comparison::comp_scalars(bytes, x, values::get(l, j));
-        if !fine(e, s) {
+    for j in 0..values::size(l) {
+        if !fine(e, comparison::comp_scalars(bytes, x, values::get(l, j))) {
             return false;
         }
-        j += 1;
     }
     true
 }
@@ -58,22 +44,16 @@ fn best(bytes: &[u8], e: Extreme, l: List, i: usize) -> bool
     requires { (i < list_limit) × (i < size_of l) }
     ensures { result ≡ bestb (end e) (meaning_l bytes.now l) i }
 {
-    if values::is_unknown(values::get(l, i)) {
-        return false;
-    }
-    unbeaten(bytes, e, l, i)
+    !values::is_unknown(values::get(l, i)) && unbeaten(bytes, e, l, i)
 }
 
 fn extreme_of(bytes: &[u8], e: Extreme, l: List) -> Scalar
     ensures { one (meaning bytes.now result) ≡ given (extreme_f (end e) (sequence (meaning_l bytes.now l))) }
 {
-    let n = values::size(l);
-    let mut i = 0;
-    while i < n {
+    for i in 0..values::size(l) {
         if best(bytes, e, l, i) {
             return values::get(l, i);
         }
-        i += 1;
     }
     Scalar::Unknown
 }
@@ -81,9 +61,9 @@ fn extreme_of(bytes: &[u8], e: Extreme, l: List) -> Scalar
 pub fn extreme(bytes: &[u8], e: Extreme, a: Value) -> Value
     ensures { Means bytes.now (paper.extreme (end e)) (a ∷ []) result }
 {
-    let l = a.list;
     if a.many {
-        return values::single(extreme_of(bytes, e, l));
+        values::single(extreme_of(bytes, e, a.list))
+    } else {
+        values::single(Scalar::Unknown)
     }
-    values::single(Scalar::Unknown)
 }

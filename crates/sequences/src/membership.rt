@@ -11,14 +11,11 @@ use values::{List, Scalar, Value};
 fn found(bytes: &[u8], l: List, b: Value) -> bool
     ensures { result ≡ not (missed (meaning_l bytes.now l) (meaning_v bytes.now b)) }
 {
-    let n = values::size(l);
-    let mut i = 0;
-    while i < n {
+    for i in 0..values::size(l) {
         let v = values::single(values::get(l, i));
         if values::is_level(comparison::comp(bytes, v, b)) {
             return true;
         }
-        i += 1;
     }
     false
 }
@@ -26,12 +23,7 @@ fn found(bytes: &[u8], l: List, b: Value) -> bool
 pub fn includes(bytes: &[u8], a: Value, b: Value) -> Value
     ensures { Means bytes.now paper.includes (a ∷ b ∷ []) result }
 {
-    let l = a.list;
-    if a.many {
-        let t = found(bytes, l, b);
-        return values::single(Scalar::Truth(t));
-    }
-    values::single(Scalar::Truth(false))
+    values::single(Scalar::Truth(a.many && found(bytes, a.list, b)))
 }
 
 pub fn oneof(bytes: &[u8], a: Value, b: Value) -> Value

@@ -83,12 +83,10 @@ fn component(kind: u8, n: u32, out: &mut [u8], o: usize) -> usize
 pub fn shown(bytes: &[u8], r: Row, out: &mut [u8], o: usize) -> usize
     ensures { Appends out.old out.new o result (row_written bytes.now r) }
 {
-    let s = r.shown;
-    let v = r.value;
-    match s {
+    match r.shown {
         Shown::NoRow => word(b"none", out, o),
         Shown::There => byte(b'*', out, o),
-        Shown::OfValue => value(bytes, v, out, o),
+        Shown::OfValue => value(bytes, r.value, out, o),
         Shown::OfState(n) => state(n, out, o),
         Shown::OfClass(n) => class(n, out, o),
         Shown::OfType(n) => declared(n, out, o),

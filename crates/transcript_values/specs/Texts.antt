@@ -1,6 +1,6 @@
 -- The hexadecimal digits of a text that are left: all at first, and those of one byte less at each step.
-use Rattle.std.specs.Prelude.{ℕ, ◌+◌, ◌-◌, ◌<◌, ◌≡◌, refl, List, [], ◌∷◌, ◌++◌, get_or}
-use Rattle.std.proofs.Common.{ap, ◌∙◌}
+use Rattle.std.specs.Prelude.{ℕ, ◌+◌, ◌-◌, ◌<◌, ◌≡◌, refl, List, [], ◌++◌, get_or}
+use Rattle.std.proofs.Common.{ap}
 use Rattle.parts.specs.Texts.{cells}
 use Rattle.written.specs.Texts.{one_less}
 use Rattle.transcript_values.specs.Literals.{in_hex, all_hex}

@@ -9,10 +9,9 @@ const STDOUT_FILENO: i32 = 1;
 
 // Writes the first `o` bytes of the buffer.
 pub fn flush(out: &[u8], o: usize) {
-    if out.len() < o {
-        return;
+    if let Some(written) = out.get(..o) {
+        io::write_all(STDOUT_FILENO, written);
     }
-    io::write_all(STDOUT_FILENO, &out[..o]);
 }
 
 // Where the next line goes.
@@ -20,10 +19,11 @@ pub fn room(out: &[u8], o: usize) -> usize
     ensures { result ≡ room_at (length out.now) o }
 {
     if o <= out.len() / 4 {
-        return o;
+        o
+    } else {
+        flush(out, o);
+        0
     }
-    flush(out, o);
-    0
 }
 
 // A number behind a blank.

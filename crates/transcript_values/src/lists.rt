@@ -24,12 +24,9 @@ fn element(bytes: &[u8], l: List, i: usize, out: &mut [u8], o: usize) -> usize
 fn more(bytes: &[u8], l: List, out: &mut [u8], o: usize) -> usize
     ensures { Appends out.old out.new o result (more_literal (drop 1 (meaning_l bytes.now l))) }
 {
-    let n = values::size(l);
     let mut p = o;
-    let mut i = 1;
-    while i < n {
+    for i in 1..values::size(l) {
         p = element(bytes, l, i, out, p);
-        i += 1;
     }
     byte(b')', out, p)
 }
@@ -51,9 +48,8 @@ pub fn value(bytes: &[u8], v: Value, out: &mut [u8], o: usize) -> usize
     ensures { Appends out.old out.new o result (value_literal (meaning_v bytes.now v)) }
 {
     if v.many {
-        let l = v.list;
-        return list(bytes, l, out, o);
+        list(bytes, v.list, out, o)
+    } else {
+        scalar(bytes, v.one, out, o)
     }
-    let s = v.one;
-    scalar(bytes, s, out, o)
 }

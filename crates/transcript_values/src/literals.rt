@@ -15,9 +15,10 @@ fn truth(t: bool, out: &mut [u8], o: usize) -> usize
     ensures { Appends out.old out.new o result (scalar_literal (paper.truth t)) }
 {
     if t {
-        return word(b"b1", out, o);
+        word(b"b1", out, o)
+    } else {
+        word(b"b0", out, o)
     }
-    word(b"b0", out, o)
 }
 
 // A kind's letter and a number with its sign: of a real, its thousandths.
@@ -32,10 +33,7 @@ fn hexadecimal(n: u8) -> u8
     requires { n < 16 }
     ensures { result ≡ hex_digit n }
 {
-    if n < 10 {
-        return b'0' + n;
-    }
-    b'a' - 10 + n
+    if n < 10 { b'0' + n } else { b'a' - 10 + n }
 }
 
 fn two_digits(b: u8, out: &mut [u8], o: usize) -> usize
@@ -50,10 +48,8 @@ fn spelt(bytes: &[u8], h: Handle, out: &mut [u8], o: usize) -> usize
     ensures { Appends out.old out.new o result (all_hex (bytes_of bytes.now h)) }
 {
     let mut p = o;
-    let mut i = 0;
-    while i < h.len {
+    for i in 0..h.len {
         p = two_digits(at(bytes, h.at, i), out, p);
-        i += 1;
     }
     p
 }

@@ -7,7 +7,7 @@ use Rattle.parts.specs.Codes.{kind}
 use Rattle.parts.specs.Texts.{text_at_fn}
 use Rattle.parts.specs.Part.{Load}
 use Rattle.parts.specs.Items.{Items}
-use Rattle.resolution.specs.Letters.{letter, Outcome, is}
+use Rattle.resolution.specs.Letters.{Outcome}
 
 -- 4.3, by the number of the declared type
 abbrev pub inferred_of : ℕ → ℕ

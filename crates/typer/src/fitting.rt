@@ -16,11 +16,7 @@ fn assignable(found: u8, bytes: &[u8], names: &[u32], types: &[u8], h: usize) ->
     ensures { Assignable bytes.now names.now types.now h found result }
 {
     let i = parts::names::find(bytes, names, h);
-    if i < names.len() {
-        let wanted = leaves::inferred(parts::byte(types, i));
-        return resolution::meets(found, wanted, true);
-    }
-    false
+    i < names.len() && resolution::meets(found, leaves::inferred(parts::byte(types, i)), true)
 }
 
 // Whether the type found fits the role.

@@ -17,9 +17,10 @@ fn atom(task: usize, h: usize, bytes: &[u8], names: &[u32], types: &[u8]) -> u8
 {
     let i = parts::names::find(bytes, names, h);
     if i < names.len() {
-        return inferred(parts::byte(types, i));
+        inferred(parts::byte(types, i))
+    } else {
+        b'T'
     }
-    b'T'
 }
 
 // Rules 1 to 4, by the kind of the part and its load.

@@ -25,15 +25,14 @@ fn compound(kind: usize, n: usize, s: Summary) -> u8
     ensures { result ≡ compound_of kind n s }
 {
     if !s.typed {
-        return 0;
+        0
+    } else if kind == Code::LIST {
+        s.list
+    } else if OPERANDS < n {
+        0
+    } else {
+        resolution::apply(kind / Family::SIZE, s.first, s.second, s.third)
     }
-    if kind == Code::LIST {
-        return s.list;
-    }
-    if OPERANDS < n {
-        return 0;
-    }
-    resolution::apply(kind / Family::SIZE, s.first, s.second, s.third)
 }
 
 // The types of the `n` operands that end at `p`, from the last to the first.
@@ -51,17 +50,15 @@ fn operands(
     requires { 0 < depth }
     ensures { Gathered (table cells.now bytes.now) names.now types.now task p n depth result }
 {
-    let mut s = lists::start();
+    let mut s = Summary::start();
     let mut q = p;
-    let mut k = n;
-    while 0 < k {
+    for _ in 0..n {
         let t = type_of(cells, bytes, names, types, task, q, depth - 1);
         if t == 0 {
-            return lists::untyped();
+            return Summary::untyped();
         }
-        s = lists::push(t, s);
+        s = s.push(t);
         q = parts::back(cells, q);
-        k -= 1;
     }
     s
 }
@@ -79,10 +76,7 @@ pub fn type_of(
 ) -> u8
     ensures { Typed (table cells.now bytes.now) names.now types.now task end depth result }
 {
-    if end == 0 {
-        return 0;
-    }
-    if depth == 0 {
+    if end == 0 || depth == 0 {
         return 0;
     }
     let p = end - 1;

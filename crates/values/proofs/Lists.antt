@@ -1,11 +1,11 @@
 -- What a list of cells means, element by element.
-use mathlib.Core.Path.{◌≡◌, refl, sym, ap, subst, ◌∙◌}
+use mathlib.Core.Path.{◌≡◌, refl, sym, ap, ◌∙◌}
 use mathlib.Core.List.{List, [], ◌∷◌, ◌++◌, map, map-append}
 use Prim.Native.Nat.{ℕ, zero, suc, ◌+◌, ◌≤◌, ◌<◌}
 use native.Mathlib.Numerals.{add-one}
 use native.Mathlib.Omega.{arith}
-use lib.ListN.{get_or, length, take, set, length-map, length-take, length-set, get_or-map}
-use lib.Seq.{get_or-take, take_all, length-take-le, take-set-lt, take-suc-set}
+use lib.ListN.{get_or, length, take, set, length-map, get_or-map}
+use lib.Seq.{get_or-take, take-suc-set}
 use Rattle.paper_expressions.specs.Values as paper
 use Rattle.values.specs.declared.scalar.Scalar.{Scalar}
 use Rattle.values.specs.declared.scalar.Scalar.TheVariants.{Unknown}

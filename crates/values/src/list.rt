@@ -31,55 +31,40 @@ impl List {
 pub fn empty() -> List
     ensures { result.n ≡ 0 }
 {
-    let c = Cell { s: Scalar::Unknown };
     List {
         n: 0,
-        items: [c; List::LIST_LIMIT],
+        items: [Cell { s: Scalar::Unknown }; List::LIST_LIMIT],
     }
 }
 
 pub fn size(l: List) -> usize
     ensures { (result ≡ size_of l) × (result ≤ list_limit) × (result ≤ l.n) }
 {
-    let n = l.n;
-    if n < List::LIST_LIMIT {
-        n
-    } else {
-        List::LIST_LIMIT
-    }
+    l.n.min(List::LIST_LIMIT)
 }
 
 pub fn get(l: List, i: usize) -> Scalar
     requires { i < list_limit }
     ensures { result ≡ at l.items i }
 {
-    let c = l.items[i];
-    c.s
+    l.items[i].s
 }
 
 // The list with s in the place of its i-th.
-pub fn put(l: List, i: usize, s: Scalar) -> List
+pub fn put(mut l: List, i: usize, s: Scalar) -> List
     requires { i < list_limit }
     ensures { Stored l i s result }
 {
-    let mut items = l.items;
-    items[i] = Cell { s: s };
-    List {
-        n: l.n,
-        items: items,
-    }
+    l.items[i] = Cell { s };
+    l
 }
 
 // The list with s after its last.
-pub fn push(l: List, s: Scalar) -> List
+pub fn push(mut l: List, s: Scalar) -> List
     requires { l.n < list_limit }
     ensures { Pushed l s result }
 {
-    let mut items = l.items;
-    let n = l.n;
-    items[n] = Cell { s: s };
-    List {
-        n: n + 1,
-        items: items,
-    }
+    l.items[l.n] = Cell { s };
+    l.n += 1;
+    l
 }

@@ -56,11 +56,5 @@ pub fn real(w: Wide) -> Scalar
 pub fn is_unknown(s: Scalar) -> bool
     ensures { result ≡ unknownb s }
 {
-    match s {
-        Scalar::Unknown => true,
-        Scalar::Truth(_) => false,
-        Scalar::Int(_) => false,
-        Scalar::Real(_) => false,
-        Scalar::Text(_) => false,
-    }
+    matches!(s, Scalar::Unknown)
 }

@@ -9,6 +9,7 @@ ghost use Rattle.values.specs.Meaning.{bytes_of, handle_of, levelb};
 use numbers::Sign;
 use parts::HANDLE;
 use parts::names::letter;
+use std::cmp::Ordering;
 
 // Where a text stands among the lent bytes.
 #[derive(Clone, Copy)]
@@ -42,36 +43,26 @@ impl Handle {
 pub fn text_order(bytes: &[u8], g: Handle, h: Handle) -> Sign
     ensures { result ≡ signed (order_t (folded (bytes_of bytes.now g)) (folded (bytes_of bytes.now h))) }
 {
-    let mut i = 0;
-    while i < g.len {
+    for i in 0..g.len {
         if h.len <= i {
             return Sign::Greater;
         }
-        let a = letter(bytes, g.at, i);
-        let b = letter(bytes, h.at, i);
-        if b < a {
-            return Sign::Greater;
+        match letter(bytes, g.at, i).cmp(&letter(bytes, h.at, i)) {
+            Ordering::Greater => return Sign::Greater,
+            Ordering::Less => return Sign::Less,
+            Ordering::Equal => {}
         }
-        if a < b {
-            return Sign::Less;
-        }
-        i += 1;
     }
-    if i < h.len {
-        return Sign::Less;
+    if g.len < h.len {
+        Sign::Less
+    } else {
+        Sign::Equal
     }
-    Sign::Equal
 }
 
 // Whether comp is 0.
 pub fn is_level(s: Sign) -> bool
     ensures { result ≡ levelb s }
 {
-    match s {
-        Sign::Greater => false,
-        Sign::Less => false,
-        Sign::Equal => true,
-        Sign::Unknown => false,
-        Sign::Unfit => false,
-    }
+    matches!(s, Sign::Equal)
 }

@@ -2,6 +2,7 @@
 ghost use Rattle.std.specs.Prelude.{◌≡◌, true, false};
 ghost use Rattle.values.specs.Meaning.{scalar_of};
 
+use crate::list;
 use crate::list::List;
 use crate::scalar::Scalar;
 
@@ -15,11 +16,10 @@ pub struct Value {
 pub fn single(s: Scalar) -> Value
     ensures { (result.many ≡ false) × (result.one ≡ s) }
 {
-    let l = crate::list::empty();
     Value {
         many: false,
         one: s,
-        list: l,
+        list: list::empty(),
     }
 }
 
@@ -37,8 +37,5 @@ pub fn many(l: List) -> Value
 pub fn scalar_of(v: Value) -> Scalar
     ensures { result ≡ scalar_of v }
 {
-    if v.many {
-        return Scalar::Unknown;
-    }
-    v.one
+    if v.many { Scalar::Unknown } else { v.one }
 }

@@ -1,6 +1,6 @@
 -- The bytes of a text that are left: all at first, and one less at each step.
 use Rattle.std.specs.Prelude.{ℕ, suc, ◌+◌, ◌-◌, ◌<◌, ◌≡◌, refl, List, ◌∷◌, get_or}
-use Rattle.std.proofs.Common.{sym, ap, ◌∙◌, arith}
+use Rattle.std.proofs.Common.{sym, ap, arith}
 use Rattle.parts.specs.Texts.{cells}
 
 pub none_left : (b : List ℕ) (x n : ℕ) → cells b x n ≡ cells b (x + 0) (n - 0)

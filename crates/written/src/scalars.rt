@@ -13,9 +13,10 @@ fn truth(b: bool, out: &mut [u8], o: usize) -> usize
     ensures { Appends out.old out.new o result (scalar_written (paper.truth b)) }
 {
     if b {
-        return word(b"true", out, o);
+        word(b"true", out, o)
+    } else {
+        word(b"false", out, o)
     }
-    word(b"false", out, o)
 }
 
 // The bytes of a text.
@@ -23,10 +24,8 @@ fn text(bytes: &[u8], h: Handle, out: &mut [u8], o: usize) -> usize
     ensures { Appends out.old out.new o result (bytes_of bytes.now h) }
 {
     let mut p = o;
-    let mut i = 0;
-    while i < h.len {
+    for i in 0..h.len {
         p = byte(at(bytes, h.at, i), out, p);
-        i += 1;
     }
     p
 }

@@ -1,6 +1,6 @@
 -- `applied`: by the number of operands.
 use Rattle.std.proofs.Common.{rules, [], ◌∷◌}
-use Rattle.apply.specs.Applies.{by_number, no_number}
+use Rattle.apply.specs.Applies.{no_number}
 use Rattle.apply.proofs.applied.Goals as goal
 
 pub returns-in_default : goal.returns-in_default

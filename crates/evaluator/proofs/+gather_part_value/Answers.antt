@@ -2,40 +2,25 @@
 use Rattle.std.proofs.Common.{arith}
 use Rattle.parts.specs.Part.{table}
 use Rattle.evaluator.specs.Columns.{columns}
-use Rattle.evaluator.specs.Valued.{going_first, going_on, going_done, nothing_ends, too_deep, by_leaf, by_operands}
+use Rattle.evaluator.specs.Valued.{going_first, going_on, going_done, by_operands}
 use Rattle.evaluator.proofs.+gather_part_value.Goals as goal
 
 pub gather-loop-k-init : goal.gather-loop-k-init
 gather-loop-k-init t c =
     let a = c.args in
-    (omega arith, going_first (table a.cells.now a.bytes.now) (columns a.names.now a.tags.now a.nums.now a.tasks.now a.states.now) a.p a.n a.depth c.none-o.result c.none-o.ensures)
+    going_first (table a.cells.now a.bytes.now) (columns a.names.now a.tags.now a.nums.now a.tasks.now a.states.now) a.p a.n a.depth c.none-o.result c.none-o.ensures
 
 pub gather-loop-k-preserved : goal.gather-loop-k-preserved
 gather-loop-k-preserved t c =
     let a = c.args in
     let l = c.loop-k in
-    (omega arith, going_on (table a.cells.now a.bytes.now) (columns a.names.now a.tags.now a.nums.now a.tasks.now a.states.now) a.p a.n a.depth l.k l.q c.back-q.result c.part_value-v.result l.o c.put-o.result c.loop-k-test.true l.invariant.1 c.part_value-v.ensures c.put-o.ensures c.back-q.ensures)
+    going_on (table a.cells.now a.bytes.now) (columns a.names.now a.tags.now a.nums.now a.tasks.now a.states.now) a.p a.n a.depth l.k l.q c.back-q.result c.part_value-v.result l.o c.put-o.result c.loop-k-test.true l.invariant c.part_value-v.ensures c.put-o.ensures c.back-q.ensures
 
 pub gather-returns : goal.gather-returns
 gather-returns t c =
     let a = c.args in
     let l = c.loop-k in
-    going_done (table a.cells.now a.bytes.now) (columns a.names.now a.tags.now a.nums.now a.tasks.now a.states.now) a.p a.n a.depth l.k l.q l.o c.loop-k-test.false l.invariant.1
-
-pub part_value-returns-then-end-eq0 : goal.part_value-returns-then-end-eq0
-part_value-returns-then-end-eq0 t c =
-    let a = c.args in
-    nothing_ends (table a.cells.now a.bytes.now) (columns a.names.now a.tags.now a.nums.now a.tasks.now a.states.now) a.depth a.end c.single.result c.if-end-eq0.true
-
-pub part_value-returns-then-depth-eq0 : goal.part_value-returns-then-depth-eq0
-part_value-returns-then-depth-eq0 t c =
-    let a = c.args in
-    too_deep (table a.cells.now a.bytes.now) (columns a.names.now a.tags.now a.nums.now a.tasks.now a.states.now) a.depth a.end c.single-then-depth-eq0.result c.if-depth-eq0.true
-
-pub part_value-returns-then-kind-lt-LIST : goal.part_value-returns-then-kind-lt-LIST
-part_value-returns-then-kind-lt-LIST t c =
-    let a = c.args in
-    by_leaf (table a.cells.now a.bytes.now) (columns a.names.now a.tags.now a.nums.now a.tasks.now a.states.now) a.depth a.end c.code-kind.result c.load.result c.leaf.result c.code-kind.ensures c.if-kind-lt-LIST.true c.load.ensures c.leaf.ensures
+    going_done (table a.cells.now a.bytes.now) (columns a.names.now a.tags.now a.nums.now a.tasks.now a.states.now) a.p a.n a.depth l.k l.q l.o c.loop-k-test.false l.invariant
 
 pub part_value-returns : goal.part_value-returns
 part_value-returns t c =

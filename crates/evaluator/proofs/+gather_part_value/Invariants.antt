@@ -1,6 +1,6 @@
 -- `part_value` and `gather`, which call each other: the depth falls. The operands that are left end where the walk stands,
 -- and the values of those passed are gathered.
-use Rattle.std.proofs.Common.{ℕ, ◌+◌, ◌*◌, ◌≤◌}
+use Rattle.std.proofs.Common.{◌+◌, ◌*◌}
 use Rattle.parts.specs.Part.{table}
 use Rattle.evaluator.specs.Columns.{columns}
 use Rattle.evaluator.specs.Valued.{Going}
@@ -14,7 +14,4 @@ decreases-part_value l = 2 * l.depth + 1
 
 abbrev pub invariant-gather-loop-k : goal.invariant-gather-loop-k
 invariant-gather-loop-k l =
-    (l.k ≤ l.n) × Going (table l.cells l.bytes) (columns l.names l.tags l.nums l.tasks l.states) l.p l.n l.depth l.k l.q l.o
-
-abbrev pub decreases-gather-loop-k : goal.decreases-gather-loop-k
-decreases-gather-loop-k l = l.k
+    Going (table l.cells l.bytes) (columns l.names l.tags l.nums l.tasks l.states) l.p l.n l.depth l.k l.q l.o

@@ -1,42 +1,45 @@
 -- Each goal is a step of the walk, from the last operand to the first, or of the expression by its root.
-use Rattle.std.proofs.Common.{ap, arith}
+use Rattle.std.proofs.Common.{ℕ, ◌≡◌, ◌-◌, ◌+◌, ap, subst, arith}
 use Rattle.parts.specs.Part.{table}
 use Rattle.typer.specs.declared.lists.Summary.{Summary}
-use Rattle.typer.proofs.TypedLaws.{going_first, going_on, going_stop, going_done, nothing_ends, too_deep, by_operands}
+use Rattle.typer.proofs.TypedLaws.{Going, going_first, going_on, going_stop, going_done, nothing_ends, too_deep, by_operands}
 use Rattle.typer.proofs.+operands_type_of.Goals as goal
+use Rattle.typer.proofs.+operands_type_of.Goals.{type_of-then-end-eq0-via-then-end-eq0, type_of-then-end-eq0-via-else-end-eq0+then-depth-eq0}
 
-pub operands-loop-k-init : goal.operands-loop-k-init
-operands-loop-k-init t c =
+pub operands-loop-init : goal.operands-loop-init
+operands-loop-init t c =
     let a = c.args in
-    (omega arith, going_first (table a.cells.now a.bytes.now) a.names.now a.types.now a.task a.p a.n a.depth c.start-s.result c.start-s.ensures)
+    let e : a.n ≡ a.n - 0 = omega arith in
+    subst (λ (k : ℕ). Going (table a.cells.now a.bytes.now) a.names.now a.types.now a.task a.p a.n a.depth k a.p c.start-s.result) e
+    (going_first (table a.cells.now a.bytes.now) a.names.now a.types.now a.task a.p a.n a.depth c.start-s.result c.start-s.ensures)
 
 pub operands-returns-then-t-eq0 : goal.operands-returns-then-t-eq0
 operands-returns-then-t-eq0 t c =
     let a = c.args in
-    let l = c.loop-k in
-    going_stop (table a.cells.now a.bytes.now) a.names.now a.types.now a.task a.p a.n a.depth l.k l.q c.type_of-t.result l.s c.untyped.result c.loop-k-test.true c.if-t-eq0.true l.invariant.1 c.type_of-t.ensures (ap (λ (s : Summary). s.typed) c.untyped.ensures)
+    let l = c.loop in
+    going_stop (table a.cells.now a.bytes.now) a.names.now a.types.now a.task a.p a.n a.depth (a.n - l.counter) l.q c.type_of-t.result l.s c.untyped.result (omega arith) c.if-t-eq0.true l.invariant c.type_of-t.ensures (ap (λ (s : Summary). s.typed) c.untyped.ensures)
 
-pub operands-loop-k-preserved : goal.operands-loop-k-preserved
-operands-loop-k-preserved t c =
+pub operands-loop-preserved : goal.operands-loop-preserved
+operands-loop-preserved t c =
     let a = c.args in
-    let l = c.loop-k in
-    (omega arith, going_on (table a.cells.now a.bytes.now) a.names.now a.types.now a.task a.p a.n a.depth l.k l.q c.type_of-t.result c.back-q.result l.s c.push-s.result c.loop-k-test.true c.if-t-eq0.false l.invariant.1 c.type_of-t.ensures c.push-s.ensures c.back-q.ensures)
+    let l = c.loop in
+    let e : a.n - l.counter - 1 ≡ a.n - (l.counter + 1) = omega arith in
+    subst (λ (k : ℕ). Going (table a.cells.now a.bytes.now) a.names.now a.types.now a.task a.p a.n a.depth k c.back-q.result c.push-s.result) e
+    (going_on (table a.cells.now a.bytes.now) a.names.now a.types.now a.task a.p a.n a.depth (a.n - l.counter) l.q c.type_of-t.result c.back-q.result l.s c.push-s.result (omega arith) c.if-t-eq0.false l.invariant c.type_of-t.ensures c.push-s.ensures c.back-q.ensures)
 
 pub operands-returns : goal.operands-returns
 operands-returns t c =
     let a = c.args in
-    let l = c.loop-k in
-    going_done (table a.cells.now a.bytes.now) a.names.now a.types.now a.task a.p a.n a.depth l.k l.q l.s c.loop-k-test.false l.invariant.1
+    let l = c.loop in
+    going_done (table a.cells.now a.bytes.now) a.names.now a.types.now a.task a.p a.n a.depth (a.n - l.counter) l.q l.s (omega arith) l.invariant
 
 pub type_of-returns-then-end-eq0 : goal.type_of-returns-then-end-eq0
 type_of-returns-then-end-eq0 t c =
     let a = c.args in
-    nothing_ends (table a.cells.now a.bytes.now) a.names.now a.types.now a.task a.depth a.end 0 c.if-end-eq0.true
-
-pub type_of-returns-then-depth-eq0 : goal.type_of-returns-then-depth-eq0
-type_of-returns-then-depth-eq0 t c =
-    let a = c.args in
-    too_deep (table a.cells.now a.bytes.now) a.names.now a.types.now a.task a.depth a.end 0 c.if-depth-eq0.true
+    elim c.then-end-eq0.branch [
+      | type_of-then-end-eq0-via-then-end-eq0 w ↦ nothing_ends (table a.cells.now a.bytes.now) a.names.now a.types.now a.task a.depth a.end 0 w.if-end-eq0.true
+      | type_of-then-end-eq0-via-else-end-eq0+then-depth-eq0 w ↦ too_deep (table a.cells.now a.bytes.now) a.names.now a.types.now a.task a.depth a.end 0 w.if-depth-eq0.true
+    ]
 
 pub type_of-returns : goal.type_of-returns
 type_of-returns t c =

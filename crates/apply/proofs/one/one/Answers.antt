@@ -1,7 +1,6 @@
 -- `one`: each arm calls the operator with the number.
 use Rattle.std.proofs.Common.{[], ◌∷◌}
-use Rattle.paper_expressions.specs.Values.{dormant, in_progress, discarded, completed}
-use Rattle.apply.specs.Applies.{arm, state_arm, sole, no_one}
+use Rattle.apply.specs.Applies.{arm, sole}
 use Rattle.apply.proofs.one.one.Goals as goal
 
 pub returns-in-80 : goal.returns-in-80

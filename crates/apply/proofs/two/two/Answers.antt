@@ -1,6 +1,6 @@
 -- `two`: each arm calls the operator with the number.
 use Rattle.std.proofs.Common.{[], ◌∷◌}
-use Rattle.apply.specs.Applies.{arm, no_two}
+use Rattle.apply.specs.Applies.{arm}
 use Rattle.apply.proofs.two.two.Goals as goal
 
 pub returns-in-10 : goal.returns-in-10

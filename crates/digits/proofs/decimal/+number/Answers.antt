@@ -1,5 +1,5 @@
 -- `number`: below ten one digit, else the digits of the tenth and the last.
-use Prim.Native.Nat.{ℕ, ◌<◌, ◌^◌}
+use Prim.Native.Nat.{◌<◌, ◌^◌}
 use native.Mathlib.Omega.{arith}
 use Rattle.digits.specs.AppendsLaws.{appends_as, append_then}
 use Rattle.digits.specs.Digits.{more_digits}

@@ -12,17 +12,17 @@ use Rattle.written.proofs.scalars.text.Goals as goal
 pub loop-i-init : goal.loop-i-init
 loop-i-init c =
     let a = c.args in
-    (omega arith, subst (λ (w : List ℕ). Begun a.out.now a.out.now a.o a.o w (bytes_of a.bytes.now a.h)) (none_left a.bytes.now a.h.at a.h.len) (begun_none _ _ _))
+    subst (λ (w : List ℕ). Begun a.out.now a.out.now a.o a.o w (bytes_of a.bytes.now a.h)) (none_left a.bytes.now a.h.at a.h.len) (begun_none _ _ _)
 
 pub loop-i-preserved : goal.loop-i-preserved
 loop-i-preserved c =
     let a = c.args in
     let l = c.loop-i in
-    (omega arith, begun_more (subst (λ (w : List ℕ). Begun a.out.now l.out a.o l.p w (bytes_of a.bytes.now a.h)) (one_less a.bytes.now a.h.at a.h.len l.i (omega arith) c.at.ensures) l.invariant.1) c.byte-p.ensures)
+    begun_more (subst (λ (w : List ℕ). Begun a.out.now l.out a.o l.p w (bytes_of a.bytes.now a.h)) (one_less a.bytes.now a.h.at a.h.len l.i (omega arith) c.at.ensures) l.invariant) c.byte-p.ensures
 
 pub returns : goal.returns
 returns c =
     let a = c.args in
     let l = c.loop-i in
     let e : a.h.len - l.i ≡ 0 = omega arith in
-    begun_all (subst (λ (n : ℕ). Begun a.out.now l.out a.o l.p (cells a.bytes.now (a.h.at + l.i) n) (bytes_of a.bytes.now a.h)) e l.invariant.1) (append_nothing _ _)
+    begun_all (subst (λ (n : ℕ). Begun a.out.now l.out a.o l.p (cells a.bytes.now (a.h.at + l.i) n) (bytes_of a.bytes.now a.h)) e l.invariant) (append_nothing _ _)
