@@ -18,10 +18,7 @@ const ROOT: usize = 0;
 fn is_wording(k: usize) -> bool
     ensures { result ≡ wording_kind k }
 {
-    if k == Kind::CAPTION {
-        return true;
-    }
-    k == Kind::DESCRIPTION
+    matches!(k, Kind::CAPTION | Kind::DESCRIPTION)
 }
 
 // What the expression of the row is written for: an assignment, a caption or description, or a condition.
@@ -89,10 +86,8 @@ pub fn misfits(
     ensures { AllMisfits rows.now (table cells.now bytes.now) names.now types.now n result }
 {
     let mut best = Found::Nowhere;
-    let mut j = 0;
-    while j < n {
+    for j in 0..n {
         best = judge(rows, cells, bytes, names, types, j, best);
-        j += 1;
     }
     best
 }
