@@ -27,12 +27,12 @@ fn role(rows: &[u32], j: usize) -> Role
 {
     let k = kind(rows, j);
     if k == Kind::EQUALS {
-        return Role::Assigned(handle(rows, j));
+        Role::Assigned(handle(rows, j))
+    } else if is_wording(k) {
+        Role::Wording
+    } else {
+        Role::Condition
     }
-    if is_wording(k) {
-        return Role::Wording;
-    }
-    Role::Condition
 }
 
 // Whether the row `j` has an expression that doesn't fit. Types don't depend on the task: the root stands for all.
@@ -69,9 +69,10 @@ fn judge(
     ensures { Judges rows.now (table cells.now bytes.now) names.now types.now j best result }
 {
     if unfit(rows, cells, bytes, names, types, j) {
-        return nearer(best, begin(rows, j));
+        nearer(best, begin(rows, j))
+    } else {
+        best
     }
-    best
 }
 
 // The smallest place at which an expression of the first `n` rows begins that doesn't fit.
