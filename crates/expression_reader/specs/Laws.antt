@@ -1,5 +1,5 @@
 -- Laws of what holds tightest: brackets that open and close, a single token, and minuses before it. By the first token of a tree.
-use Rattle.std.specs.Prelude.{ℕ, suc, ◌+◌, ◌*◌, ◌-◌, ◌≤◌, ◌<◌, ◌≡◌, refl, true, false, List, [], ◌∷◌, eqb, leb, length, get_or}
+use Rattle.std.specs.Prelude.{ℕ, suc, ◌+◌, ◌-◌, ◌≤◌, ◌<◌, ◌≡◌, refl, true, false, List, [], ◌∷◌, eqb, leb, length, get_or}
 use Rattle.std.proofs.Common.{sym, ap, subst, ◌∙◌, ⊎_elim, arith, leb-true, leb-false}
 use Rattle.paper_expressions.proofs.Laws.Tests.{two, contra}
 use Rattle.paper_expressions.proofs.Laws.Functors.{functor_f}
@@ -12,19 +12,18 @@ use Rattle.paper_tokens.specs.Terminals
 use Rattle.paper_guideline.specs.Tree.{Where, anywhere, Tree, Trees, empty, nonempty}
 use Rattle.paper_guideline.specs.Refusals.{TokenBreach, TooManyOpen, one_too_many, one_more_open, one_fewer_open, Opening, opens_round, opens_square, Closing, closes_round, closes_square}
 use Rattle.paper_tokens.proofs.Laws.TerminalLaws.{terminal_f, terminal_is, atom-kind}
-use Rattle.parts.specs.Codes.{kind}
 use Rattle.parts.specs.Operands.{size_pos}
 use Rattle.parts.specs.Part.{table, size, sizes, number_of, Root, Holds, HoldsAll}
 use Rattle.leaves.specs.declared.Word.{Word}
-use Rattle.leaves.specs.Source.{Source, Here, Stand, Clean}
+use Rattle.leaves.specs.Source.{Source, Here, Stand}
 use Rattle.leaves.specs.Leaf.{Leaf, Says, SaysFunctor, SaysLeaf, SaysHead, Read, atom_range}
 use Rattle.leaves.specs.Leaf as L
 use Rattle.expression_steps.specs.declared.Built.{Built}
-use Rattle.expression_steps.specs.Rows.{Beside, Put, holds_kept, all_kept, beside_on, put_root}
+use Rattle.expression_steps.specs.Rows.{Beside, Put, all_kept, put_root}
 use Rattle.expression_steps.specs.Levels.{kind_at, kind_of, stand_kind, stand_length}
 use Rattle.expression_steps.specs.Views.{First, one_token, round, square, call, first_token, leaf_kind, no_tree, some_shorter, round_ends}
 use Rattle.expression_steps.specs.Larger.{larger_none, tree_deep, minuses_depth, minuses_longest}
-use Rattle.expression_steps.specs.Made.{Standing, Tidy, Sound, Fit, Done, Went, Onward, ReadsOperand, ReadsExpression, ReadsList, Group, a_list, a_call, Heads, Puts, Taken, Negates, minuses}
+use Rattle.expression_steps.specs.Made.{Standing, Tidy, Sound, Done, Onward, ReadsOperand, ReadsExpression, ReadsList, Group, a_list, a_call, Heads, Puts, Taken, Negates}
 use Rattle.expression_steps.specs.StepLaws.{quiet_above, quiet_brackets, quiet_next, stand_next, stand_here, minuses_size}
 use Rattle.expression_reader.specs.Single.{SaysAt, SaysHeadAt, ReadsSingle, Rounds, Left}
 

@@ -1,5 +1,5 @@
 -- Laws of the reader's two loops: the elements of a list, and operands with operators between them.
-use Rattle.std.specs.Prelude.{ℕ, ◌+◌, ◌*◌, ◌-◌, ◌≤◌, ◌<◌, ◌≡◌, refl, true, false, ◌⊎◌, List, ◌∷◌, leb, ltb, length, get_or, set}
+use Rattle.std.specs.Prelude.{ℕ, ◌+◌, ◌-◌, ◌≤◌, ◌<◌, ◌≡◌, refl, true, false, ◌⊎◌, List, ◌∷◌, leb, ltb, length, get_or, set}
 use Rattle.std.proofs.Common.{sym, ap, subst, ◌∙◌, inl, inr, ⊎_elim, arith, leb-true, leb-false, ltb-true}
 use Rattle.paper_expressions.proofs.Laws.Tests.{two}
 use Rattle.paper_expressions.specs.Expressions.{Expr, Exprs, ε, ◌▸◌}
@@ -9,19 +9,19 @@ use Rattle.paper_tokens.specs.Lexical.{Token}
 use Rattle.paper_tokens.specs.Terminals.{Terminal}
 use Rattle.paper_guideline.specs.Tree.{Where, anywhere, assigned, Tree, Trees, empty, nonempty, SomeTrees}
 use Rattle.paper_guideline.specs.Refusals.{TooManyOpen}
-use Rattle.paper_tokens.proofs.Laws.TerminalLaws.{terminal_is, one_terminal}
+use Rattle.paper_tokens.proofs.Laws.TerminalLaws.{terminal_is}
 use Rattle.paper_guideline.proofs.Laws.TreeLaws.{Ends}
-use Rattle.parts.specs.Part.{table, size, sizes, Holds, HoldsAll}
+use Rattle.parts.specs.Part.{table, size, Holds, HoldsAll}
 use Rattle.leaves.specs.Source.{Source, Stand}
 use Rattle.expression_steps.specs.declared.Built.{Built}
 use Rattle.expression_steps.specs.declared.operators.Operand.{Operand}
-use Rattle.expression_steps.specs.Rows.{Kept, Beside, holds_kept}
+use Rattle.expression_steps.specs.Rows.{Beside, holds_kept}
 use Rattle.expression_steps.specs.Levels.{level_of, level_in, kind_at, kind_of, stand_kind, stand_length, infix_no_bracket}
 use Rattle.expression_steps.specs.Views.{tree_first, After, at_close, at_comma, element, some_shorter, comma_ends, round_ends, square_ends}
 use Rattle.expression_steps.specs.Larger.{larger_zero, larger_assoc, trees_deep}
-use Rattle.expression_steps.specs.Made.{Standing, Sound, Fit, Done, ReadsOperand, ReadsExpression, Group, a_list, a_call, Around, whole, Settled, Reduces}
+use Rattle.expression_steps.specs.Made.{Standing, Done, ReadsOperand, ReadsExpression, Group, a_list, a_call, Around, whole, Settled, Reduces}
 use Rattle.expression_steps.specs.Around.{First, around_kept, around_room, around_few, around_longer, around_no_call, finish, join, down, push}
-use Rattle.expression_steps.specs.StepLaws.{quiet_brackets, stand_next, stand_here, operand}
+use Rattle.expression_steps.specs.StepLaws.{quiet_brackets, stand_next, operand}
 use Rattle.expression_reader.specs.Single.{Also, Left}
 use Rattle.expression_reader.specs.Laws.{built, sound_less, group_size, group_depth}
 

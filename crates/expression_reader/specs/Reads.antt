@@ -1,7 +1,7 @@
 -- What the expression reader has to do: every expression that the tokens have is read once, its parts, depth and longest list are counted,
 -- and the rows hold it without its parentheses, where no token is past a limit of its own and there is room. One reply for what has a tree.
-use Rattle.std.specs.Prelude.{ℕ, suc, ◌+◌, ◌*◌, ◌-◌, ◌≤◌, ◌<◌, ◌≡◌, refl, true, false, List, length}
-use Rattle.std.proofs.Common.{sym, ap, subst, ◌∙◌, arith}
+use Rattle.std.specs.Prelude.{ℕ, suc, ◌+◌, ◌*◌, ◌-◌, ◌≤◌, ◌≡◌, refl, true, List, length}
+use Rattle.std.proofs.Common.{sym, ap, ◌∙◌, arith}
 use Rattle.paper_expressions.specs.Expressions.{Expr, Exprs, Atom, IntegerLit, FloatLit, StringLit, Paren, Listing, Apply, ε, ◌▸◌}
 use Rattle.paper_expressions.proofs.Laws.Parentheses.{bare, bares}
 use Rattle.paper_guideline.specs.Limits.{guideline_limit, bracket_limit, part_limit, parts, parts_of, depth, deepest, longest_list}
@@ -12,10 +12,9 @@ use Rattle.paper_guideline.specs.Refusals.{TooManyOpen}
 use Rattle.parts.specs.Part.{table, size, sizes, Holds, Within, Withins}
 use Rattle.leaves.specs.Source.{Source, Stand, Clean}
 use Rattle.expression_steps.specs.declared.Built.{Built}
-use Rattle.expression_steps.specs.Rows.{Beside}
 use Rattle.expression_steps.specs.Levels.{stand_length}
 use Rattle.expression_steps.specs.Larger.{first_larger, second_larger}
-use Rattle.expression_steps.specs.Made.{Went, Tidy, Sound, ReadsExpression}
+use Rattle.expression_steps.specs.Made.{Went, ReadsExpression}
 
 -- the expression e is read, and behind it stand the tokens r
 pub record Whole (c : Source) (x y : List ℕ) (u : ℕ) (r : List Token) (e : Expr) (m : Built) : Type 0 where

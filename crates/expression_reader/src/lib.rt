@@ -11,7 +11,7 @@ ghost use Rattle.expression_steps.specs.Made.{ReadsOperand, ReadsExpression, Rea
 ghost use Rattle.expression_reader.specs.Reads.{Reads};
 
 use expression_steps::operators::{Operand, WAITING};
-use expression_steps::{Built, deeper, kind_at, larger, operators, refused};
+use expression_steps::{Built, deeper, kind_at, operators, refused};
 use leaves::Word;
 use limits::Brackets;
 use parts::Code;
@@ -201,20 +201,20 @@ fn expression(
         let j = e.next;
         let l = operators::level_at(kinds, j, assigned);
         let o = Operand {
-            n: n,
+            n,
             from: w,
             used: e.used,
             depth: e.depth,
         };
         let r = operators::reduce(cells, ks, fs, ds, o, l, kinds.len());
-        longest = larger(longest, e.longest);
+        longest = longest.max(e.longest);
         if l == 0 {
             return Built {
                 ok: true,
                 next: j,
                 used: r.used,
                 depth: r.depth,
-                longest: longest,
+                longest,
             };
         }
         let m = r.n;

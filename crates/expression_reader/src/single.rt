@@ -4,7 +4,7 @@ ghost use Rattle.paper_guideline.specs.Limits.{larger as largerOf};
 ghost use Rattle.leaves.specs.Source.{source};
 ghost use Rattle.expression_reader.specs.Single.{SaysAt, SaysHeadAt, ReadsSingle, Calls, Rounds, Also, Closes};
 
-use expression_steps::{Built, deeper, kind_at, larger, put, refused};
+use expression_steps::{Built, deeper, kind_at, put, refused};
 use leaves::Word;
 use terminals::Terminal;
 
@@ -15,9 +15,10 @@ fn leaf_at(text: &[u8], kinds: &[u8], places: &[usize], lengths: &[usize], p: us
     let at = leaves::cell(places, p);
     let n = leaves::cell(lengths, p);
     if leaves::fits(text, at, n) {
-        return leaves::leaf(text, parts::byte(kinds, p), at, n);
+        leaves::leaf(text, parts::byte(kinds, p), at, n)
+    } else {
+        Word { kind: 0, load: 0 }
     }
-    Word { kind: 0, load: 0 }
 }
 
 // The part of a call whose functor name is the token `p`.
@@ -27,9 +28,10 @@ pub fn head_at(text: &[u8], places: &[usize], lengths: &[usize], p: usize) -> Wo
     let at = leaves::cell(places, p);
     let n = leaves::cell(lengths, p);
     if leaves::fits(text, at, n) {
-        return leaves::head(text, at, n);
+        leaves::head(text, at, n)
+    } else {
+        Word { kind: 0, load: 0 }
     }
-    Word { kind: 0, load: 0 }
 }
 
 // An atom, a number or a string.
@@ -45,11 +47,7 @@ pub fn single(
     requires { u ≤ p }
     ensures { ReadsSingle (source text.now kinds.now places.now lengths.now) cells.old cells.new p u result }
 {
-    let k = kind_at(kinds, p);
-    if k < Terminal::OTHER_ATOM {
-        return refused();
-    }
-    if Terminal::STRING < k {
+    if !matches!(kind_at(kinds, p), Terminal::OTHER_ATOM..=Terminal::STRING) {
         return refused();
     }
     let w = leaf_at(text, kinds, places, lengths, p);
@@ -67,17 +65,10 @@ pub fn single(
 pub fn calls(kinds: &[u8], p: usize) -> bool
     ensures { Calls kinds.now p result }
 {
-    let k = kind_at(kinds, p);
-    if k < Terminal::OTHER_ATOM {
-        return false;
-    }
-    if Terminal::DATA_TYPE < k {
-        return false;
-    }
-    if kind_at(kinds, p + 1) != Terminal::LEFT_PARENTHESIS {
-        return false;
-    }
-    true
+    matches!(
+        kind_at(kinds, p),
+        Terminal::OTHER_ATOM..=Terminal::DATA_TYPE
+    ) && kind_at(kinds, p + 1) == Terminal::LEFT_PARENTHESIS
 }
 
 // What the parenthesis at `j` closes: it is no part, and adds to the depth.
@@ -102,8 +93,8 @@ pub fn also(m: Built, e: Built) -> Built
         ok: true,
         next: e.next,
         used: e.used,
-        depth: larger(m.depth, e.depth),
-        longest: larger(m.longest, e.longest),
+        depth: m.depth.max(e.depth),
+        longest: m.longest.max(e.longest),
     }
 }
 
@@ -112,9 +103,10 @@ fn elements(close: u8, n: usize, longest: usize) -> usize
     ensures { (close ≡ 79 → result ≡ largerOf n longest) × (¬ (close ≡ 79) → result ≡ longest) }
 {
     if close == Terminal::RIGHT_BRACKET {
-        return larger(n, longest);
+        n.max(longest)
+    } else {
+        longest
     }
-    longest
 }
 
 // The part of the `n` elements, in the rows from `u` on, that the next token closes.

@@ -1,5 +1,5 @@
 -- Laws on what stands around an operand: what the next token tells, and how an operator is taken on and off the stack. By induction on `Around`.
-use Rattle.std.specs.Prelude.{ℕ, suc, ◌+◌, ◌*◌, ◌-◌, ◌≤◌, ◌<◌, ◌≡◌, refl, true, false, eqb, length, get_or, set}
+use Rattle.std.specs.Prelude.{ℕ, suc, ◌+◌, ◌-◌, ◌≤◌, ◌<◌, ◌≡◌, refl, true, false, eqb, length, get_or, set}
 use Rattle.std.proofs.Common.{sym, ap, subst, ◌∙◌, ⊎_elim, add-one, arith, get_or-set_same, get_or-set_other, eqb-true, ne_eqb}
 use mathlib.Core.List.{List, ◌∷◌, Memᴰ}
 use Rattle.std.proofs.lemmas.Bool.{eqb-false}

@@ -1,5 +1,5 @@
 -- The larger of two numbers, and how deep an expression can be: no deeper than it has tokens. By cases, and by induction on the derivation.
-use Rattle.std.specs.Prelude.{ℕ, zero, suc, ◌+◌, ◌-◌, ◌≤◌, ◌<◌, ◌≡◌, refl, true, false, ◌⊎◌, List, leb, length}
+use Rattle.std.specs.Prelude.{ℕ, zero, suc, ◌+◌, ◌-◌, ◌≤◌, ◌<◌, ◌≡◌, refl, true, false, ◌⊎◌, List, leb, length, max}
 use Rattle.std.proofs.Common.{◌∙◌, inl, inr, ⊎_elim, arith, leb-true, leb-false, le-leb}
 use Rattle.std.proofs.lemmas.Bool.{lt-leb}
 use Rattle.paper_expressions.proofs.Laws.Tests.{two}
@@ -116,3 +116,9 @@ minuses_depth (suc m) e = let i = minuses_depth m e in let z = larger_none (dept
 pub minuses_longest : (m : ℕ) (e : Expr) → longest_list (minuses m e) ≡ longest_list e
 minuses_longest zero e = refl
 minuses_longest (suc m) e = larger_none (longest_list (minuses m e)) ∙ minuses_longest m e
+
+pub larger_max : (a b : ℕ) → max a b ≡ larger a b
+larger_max a b = ⊎_elim
+    (λ (q : (a ≤ b) × (larger a b ≡ b)). let l = q.0 in let e = q.1 in omega arith)
+    (λ (q : (b < a) × (larger a b ≡ a)). let l = q.0 in let e = q.1 in omega arith)
+    (larger_is a b)

@@ -1,5 +1,5 @@
 -- What the functions of the expression reader have to do: for every tree that the tokens have, the numbers are its measures, and the rows hold it. Definitions only.
-use Rattle.std.specs.Prelude.{ℕ, zero, suc, ◌+◌, ◌*◌, ◌-◌, ◌≤◌, ◌<◌, ◌≡◌, Bool, true, false, eqb, length, get_or}
+use Rattle.std.specs.Prelude.{ℕ, zero, suc, ◌+◌, ◌*◌, ◌-◌, ◌≤◌, ◌<◌, ◌≡◌, true, false, eqb, length, get_or}
 use mathlib.Core.List.{List, ◌∷◌, Memᴰ}
 use Rattle.paper_expressions.specs.Operators.{Op, negate}
 use Rattle.paper_expressions.specs.Expressions.{Expr, Exprs, Listing, Apply, ε, ◌▸◌}

@@ -18,7 +18,7 @@ use Rattle.expression_steps.specs.Rows.{Beside, Put, holds_kept, beside_none, be
 use Rattle.expression_steps.specs.Levels.{level_of, kind_at, kind_of, code_of, infix_is, stand_kind}
 use Rattle.expression_steps.specs.Views.{Minus, minus, no_minus, minus_of, no_minus_first}
 use Rattle.expression_steps.specs.Larger.{larger_none, larger_assoc}
-use Rattle.expression_steps.specs.Made.{Standing, Puts, minuses, Taken, Negates, Around, Settles, Fit}
+use Rattle.expression_steps.specs.Made.{Standing, Puts, minuses, Taken, Negates, Around, Settles}
 use Rattle.expression_steps.specs.Around.{around_kept, around_room, around_deep, apply_last}
 
 -- ---- a token that is no bracket

@@ -5,7 +5,6 @@
 pub mod operators;
 
 ghost use Rattle.std.specs.Prelude.{◌≡◌, true, false, ◌+◌, ◌≤◌, ◌<◌};
-ghost use Rattle.paper_guideline.specs.Limits.{larger as largerOf};
 ghost use Rattle.expression_steps.specs.Levels.{kind_at};
 ghost use Rattle.expression_steps.specs.Made.{Puts, TakesMinuses, Negates};
 
@@ -45,52 +44,26 @@ const NONE: u8 = 255;
 pub fn kind_at(kinds: &[u8], p: usize) -> u8
     ensures { result ≡ kind_at kinds.now p }
 {
-    if p < kinds.len() {
-        return kinds[p];
-    }
-    NONE
-}
-
-pub fn larger(a: usize, b: usize) -> usize
-    ensures { result ≡ largerOf a b }
-{
-    if a <= b {
-        return b;
-    }
-    a
+    if p < kinds.len() { kinds[p] } else { NONE }
 }
 
 // A depth with `n` added, and never more than `most`: no expression is deeper than it has tokens.
 pub fn deeper(depth: usize, n: usize, most: usize) -> usize
     ensures { depth + n ≤ most → result ≡ depth + n }
 {
-    if most < n {
-        return most;
-    }
-    if most - n < depth {
-        return most;
-    }
-    depth + n
+    depth.saturating_add(n).min(most)
 }
 
 // Writes the row `v`, if there is room: a part of kind `k` with `n` operands in the rows from `a` on.
 pub fn put(cells: &mut [u32], v: usize, k: u8, n: usize, a: usize, l: u32)
     ensures { Puts cells.old cells.new v k n a l }
 {
-    if Expressions::PARTS <= v {
-        return;
-    }
-    if v < a {
-        return;
-    }
-    if Expressions::PARTS < n {
-        return;
-    }
-    if cells.len() / Row::CELLS <= v {
+    let room = v < Expressions::PARTS && v < cells.len() / Row::CELLS;
+    if !room || v < a || Expressions::PARTS < n {
         return;
     }
     let i = v * Row::CELLS;
-    cells[i] = k as u32;
+    cells[i] = u32::from(k);
     cells[i + Row::COUNT] = n as u32;
     cells[i + Row::SIZE] = (v + 1 - a) as u32;
     cells[i + Row::LOAD] = l;
@@ -100,14 +73,12 @@ pub fn put(cells: &mut [u32], v: usize, k: u8, n: usize, a: usize, l: u32)
 pub fn minuses(kinds: &[u8], p: usize) -> usize
     ensures { TakesMinuses kinds.now p result }
 {
-    let mut q = p;
-    loop {
-        let k = kind_at(kinds, q);
-        if k != Terminal::MINUS {
+    for q in p..kinds.len() {
+        if kinds[q] != Terminal::MINUS {
             return q;
         }
-        q += 1;
     }
+    p.max(kinds.len())
 }
 
 // Puts `m` minuses on what the rows from `u` up to `v` hold.
@@ -115,9 +86,7 @@ pub fn negate(cells: &mut [u32], u: usize, v: usize, m: usize)
     requires { v + m < 18446744073709551616 }
     ensures { Negates cells.old cells.new u v m }
 {
-    let mut i = 0;
-    while i < m {
+    for i in 0..m {
         put(cells, v + i, Code::NEGATE as u8, 1, u, 0);
-        i += 1;
     }
 }

@@ -3,7 +3,7 @@ ghost use Rattle.std.specs.Prelude.{◌≡◌, ◌+◌, ◌≤◌, ◌<◌};
 ghost use Rattle.expression_steps.specs.Levels.{level_of, level_in, code_of, kind_at, where_of};
 ghost use Rattle.expression_steps.specs.Made.{Reduces};
 
-use super::{deeper, kind_at, larger, put};
+use super::{deeper, kind_at, put};
 use parts::Code;
 use terminals::Terminal;
 
@@ -44,25 +44,14 @@ pub fn level(k: u8) -> u8
     ensures { result ≡ level_of k }
 {
     match k {
-        Terminal::OR => Levels::OR,
-        Terminal::OR_UPPER => Levels::OR,
-        Terminal::AND => Levels::AND,
-        Terminal::AND_UPPER => Levels::AND,
-        Terminal::INCLUDE => Levels::COMPARISON,
-        Terminal::INCLUDES => Levels::COMPARISON,
-        Terminal::ONEOF => Levels::COMPARISON,
-        Terminal::EQUALS => Levels::COMPARISON,
-        Terminal::LESS => Levels::COMPARISON,
-        Terminal::LESS_EQUAL => Levels::COMPARISON,
-        Terminal::EQUAL_LESS => Levels::COMPARISON,
-        Terminal::GREATER => Levels::COMPARISON,
-        Terminal::GREATER_EQUAL => Levels::COMPARISON,
-        Terminal::EQUAL_GREATER => Levels::COMPARISON,
-        Terminal::NOT_EQUAL => Levels::COMPARISON,
-        Terminal::PLUS => Levels::SUM,
-        Terminal::MINUS => Levels::SUM,
-        Terminal::TIMES => Levels::PRODUCT,
-        Terminal::DIVIDE => Levels::PRODUCT,
+        Terminal::OR | Terminal::OR_UPPER => Levels::OR,
+        Terminal::AND | Terminal::AND_UPPER => Levels::AND,
+        Terminal::INCLUDE | Terminal::INCLUDES | Terminal::ONEOF => Levels::COMPARISON,
+        Terminal::EQUALS | Terminal::NOT_EQUAL => Levels::COMPARISON,
+        Terminal::LESS | Terminal::LESS_EQUAL | Terminal::EQUAL_LESS => Levels::COMPARISON,
+        Terminal::GREATER | Terminal::GREATER_EQUAL | Terminal::EQUAL_GREATER => Levels::COMPARISON,
+        Terminal::PLUS | Terminal::MINUS => Levels::SUM,
+        Terminal::TIMES | Terminal::DIVIDE => Levels::PRODUCT,
         _ => Levels::NONE,
     }
 }
@@ -72,20 +61,15 @@ pub fn number(k: u8) -> u8
     ensures { result ≡ code_of k }
 {
     match k {
-        Terminal::OR => Code::OR as u8,
-        Terminal::OR_UPPER => Code::OR as u8,
-        Terminal::AND => Code::AND as u8,
-        Terminal::AND_UPPER => Code::AND as u8,
+        Terminal::OR | Terminal::OR_UPPER => Code::OR as u8,
+        Terminal::AND | Terminal::AND_UPPER => Code::AND as u8,
         Terminal::LESS => Code::LESS as u8,
-        Terminal::LESS_EQUAL => Code::LESS_OR_EQUAL as u8,
-        Terminal::EQUAL_LESS => Code::LESS_OR_EQUAL as u8,
+        Terminal::LESS_EQUAL | Terminal::EQUAL_LESS => Code::LESS_OR_EQUAL as u8,
         Terminal::GREATER => Code::GREATER as u8,
-        Terminal::GREATER_EQUAL => Code::GREATER_OR_EQUAL as u8,
-        Terminal::EQUAL_GREATER => Code::GREATER_OR_EQUAL as u8,
+        Terminal::GREATER_EQUAL | Terminal::EQUAL_GREATER => Code::GREATER_OR_EQUAL as u8,
         Terminal::EQUALS => Code::EQUAL as u8,
         Terminal::NOT_EQUAL => Code::NOT_EQUAL as u8,
-        Terminal::INCLUDE => Code::INCLUDES as u8,
-        Terminal::INCLUDES => Code::INCLUDES as u8,
+        Terminal::INCLUDE | Terminal::INCLUDES => Code::INCLUDES as u8,
         Terminal::ONEOF => Code::ONEOF as u8,
         Terminal::PLUS => Code::PLUS as u8,
         Terminal::MINUS => Code::MINUS as u8,
@@ -99,13 +83,11 @@ pub fn level_at(kinds: &[u8], p: usize, assigned: bool) -> u8
     ensures { result ≡ level_in (where_of assigned) (kind_at kinds.now p) }
 {
     let k = kind_at(kinds, p);
-    if !assigned {
-        return level(k);
+    if assigned && k == Terminal::AND {
+        Levels::NONE
+    } else {
+        level(k)
     }
-    if k == Terminal::AND {
-        return Levels::NONE;
-    }
-    level(k)
 }
 
 // Applies the operators that wait and are not looser than `l`: "Each level groups to the left."
@@ -122,30 +104,28 @@ pub fn reduce(
     requires { (o.n ≤ 8) × (o.used + o.n < 18446744073709551616) }
     ensures { Reduces cells.old cells.new ks fs ds o l most result }
 {
-    let mut m = o.n;
     let mut from = o.from;
     let mut used = o.used;
     let mut depth = o.depth;
-    while 0 < m {
-        let k = ks[m - 1];
+    for i in (0..o.n).rev() {
+        let k = ks[i];
         if level(k) < l {
             return Operand {
-                n: m,
-                from: from,
-                used: used,
-                depth: depth,
+                n: i + 1,
+                from,
+                used,
+                depth,
             };
         }
-        from = fs[m - 1];
+        from = fs[i];
         put(cells, used, number(k), 2, from, 0);
-        depth = deeper(larger(ds[m - 1], depth), 1, most);
+        depth = deeper(ds[i].max(depth), 1, most);
         used += 1;
-        m -= 1;
     }
     Operand {
         n: 0,
-        from: from,
-        used: used,
-        depth: depth,
+        from,
+        used,
+        depth,
     }
 }

@@ -7,7 +7,6 @@ ghost use Rattle.std.specs.Prelude.{◌≡◌, ◌+◌, ◌≤◌, length, get_o
 ghost use Rattle.guideline_rows.specs.Flags.{Spells, declared_of, Answers, Declares};
 
 use leaves::names::Span;
-use parts::byte;
 pub use row::{Flag, Kind, Row};
 
 // Where the name of the token `j` stands in the text.
@@ -17,20 +16,21 @@ pub fn spelt(text: &[u8], places: &[usize], lengths: &[usize], j: usize) -> Span
     let at = leaves::cell(places, j);
     let n = leaves::cell(lengths, j);
     if leaves::fits(text, at, n) {
-        return leaves::names::inside(text, at, n);
+        leaves::names::inside(text, at, n)
+    } else {
+        Span { at: 0, n: 0 }
     }
-    Span { at: 0, n: 0 }
 }
 
 // Yes or no: they differ in length.
 pub fn answer(text: &[u8], places: &[usize], lengths: &[usize], j: usize) -> u8
     ensures { Answers text.now places.now lengths.now j result }
 {
-    let s = spelt(text, places, lengths, j);
-    if s.n == 3 {
-        return Flag::YES;
+    if spelt(text, places, lengths, j).n == 3 {
+        Flag::YES
+    } else {
+        Flag::NO
     }
-    Flag::NO
 }
 
 // The number of a type, by the length of its name and a byte in which names of one length differ.
@@ -38,35 +38,20 @@ fn type_of(text: &[u8], at: usize, n: usize) -> u8
     requires { at + n ≤ length text.now }
     ensures { result ≡ declared_of n (λ i. get_or text.now (at + i) 0) }
 {
-    if n == 4 {
-        let b = byte(text, at + 2);
-        if b == b'x' {
-            return Flag::TEXT;
-        }
-        if b == b't' {
-            return Flag::DATE;
-        }
-        if b == b'm' {
-            return Flag::TIME;
-        }
-        return Flag::REAL;
+    match n {
+        4 => match text[at + 2] {
+            b'x' => Flag::TEXT,
+            b't' => Flag::DATE,
+            b'm' => Flag::TIME,
+            _ => Flag::REAL,
+        },
+        7 if text[at + 2] == b't' => Flag::INTEGER,
+        7 => Flag::BOOLEAN,
+        8 => Flag::DATETIME,
+        10 if text[at + 6] == b't' => Flag::SETOF_TEXT,
+        10 => Flag::SETOF_REAL,
+        _ => Flag::SETOF_INTEGER,
     }
-    if n == 7 {
-        if byte(text, at + 2) == b't' {
-            return Flag::INTEGER;
-        }
-        return Flag::BOOLEAN;
-    }
-    if n == 8 {
-        return Flag::DATETIME;
-    }
-    if n == 10 {
-        if byte(text, at + 6) == b't' {
-            return Flag::SETOF_TEXT;
-        }
-        return Flag::SETOF_REAL;
-    }
-    Flag::SETOF_INTEGER
 }
 
 // The number of the declared type that the token `j` names.

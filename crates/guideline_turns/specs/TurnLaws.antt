@@ -2,23 +2,22 @@
 use Rattle.std.specs.Prelude.{ℕ, ◌+◌, ◌*◌, ◌≤◌, ◌<◌, ◌≡◌, refl, Bool, true, false, cond, List, [], ◌∷◌, eqb, get_or, length}
 use Rattle.std.proofs.Common.{sym, ap, subst, ◌∙◌, ⊎_elim, inl, inr, arith, eqb-true, ne_eqb}
 use Rattle.std.proofs.Math.Option.{none, some}
-use Rattle.std.proofs.lemmas.Bool.{eqb-false}
 use Rattle.paper_expressions.proofs.Laws.Tests.{two, contra}
 use Rattle.paper_expressions.proofs.Laws.Parentheses.{bare}
 use Rattle.paper_expressions.specs.Expressions.{Expr}
 use Rattle.paper_expressions.specs.Limits.{list_limit}
 use Rattle.paper_guideline.specs.Limits.{guideline_limit, token_limit, part_limit, depth_limit, depth, longest_list}
 use Rattle.paper_tokens.specs.Tokens
-use Tokens.{“=”, “plan”, “action”, “enquiry”, “data”, “caption”, “description”, “precondition”, “wait-condition”, “postcondition”, “trigger”, “terminate”, “component”, “source”, “schedule-constraint”, “terminal”, “mandatory”}
+use Tokens.{“plan”, “action”, “enquiry”, “data”, “caption”, “description”, “precondition”, “wait-condition”, “postcondition”, “trigger”, “terminate”, “component”, “source”, “schedule-constraint”, “terminal”, “mandatory”}
 use Rattle.paper_grammar.proofs.Laws.Ll.{is_in}
 use Rattle.paper_tokens.specs.Lexical.{Token, atom}
-use Rattle.paper_guideline.specs.Tree.{Where, anywhere, assigned}
+use Rattle.paper_guideline.specs.Tree.{anywhere, assigned}
 use Rattle.paper_guideline.specs.Structure.{Outermost}
 use Rattle.paper_tokens.proofs.Laws.TerminalLaws.{terminal_is}
 use Rattle.parts.specs.Part.{table, size, Holds}
 use Rattle.leaves.specs.Source.{Source, Stand}
 use Rattle.expression_steps.specs.declared.Built.{Built}
-use Rattle.expression_steps.specs.Rows.{Beside, beside_none, beside_more}
+use Rattle.expression_steps.specs.Rows.{beside_none, beside_more}
 use Rattle.expression_steps.specs.Levels.{kind_at, stand_kind, stand_length}
 use Rattle.expression_steps.specs.StepLaws.{stand_here, stand_next}
 use Rattle.expression_steps.specs.Made as Steps
@@ -33,7 +32,7 @@ use Rattle.guideline_rows.specs.FlatLaws.{line_ends}
 use Rattle.guideline_rows.specs.Flags.{Spelt, Answers, Declares}
 use Rattle.guideline_rows.specs.Brackets.{two_fine}
 use Rattle.guideline_turns.specs.declared.Passed.{Passed}
-use Rattle.guideline_turns.specs.Made.{NameAt, Sound, Sized, IsLarge, Gives, Fair, Went, Passes, Steps, Plain, PlainSteps, letter, mode_of, onto}
+use Rattle.guideline_turns.specs.Made.{NameAt, Sound, Sized, IsLarge, Gives, Fair, Went, Passes, Steps, Plain, letter, mode_of, onto}
 
 -- ---- what is passed
 

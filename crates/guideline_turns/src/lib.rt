@@ -51,13 +51,14 @@ pub struct Passed {
     pub flag: u8,
 }
 
-fn stuck() -> Passed
-    ensures { result.ok ≡ false }
+// On to `next`, with no row.
+fn on(next: usize, mode: u8) -> Passed
+    ensures { result ≡ onto next mode }
 {
     Passed {
-        ok: false,
-        next: 0,
-        mode: Mode::ROW,
+        ok: true,
+        next,
+        mode,
         row: false,
         kind: 0,
         word: 0,
@@ -72,25 +73,12 @@ fn stuck() -> Passed
     }
 }
 
-// On to `next`, with no row.
-fn on(next: usize, mode: u8) -> Passed
-    ensures { result ≡ onto next mode }
+fn stuck() -> Passed
+    ensures { result.ok ≡ false }
 {
     Passed {
-        ok: true,
-        next: next,
-        mode: mode,
-        row: false,
-        kind: 0,
-        word: 0,
-        named: false,
-        name: 0,
-        place: 0,
-        first: 0,
-        end: 0,
-        start: 0,
-        large: false,
-        flag: 0,
+        ok: false,
+        ..on(0, Mode::ROW)
     }
 }
 
@@ -108,9 +96,10 @@ fn before(
     ensures { Steps front (source text.now kinds.now places.now lengths.now) cells.old cells.new p u result }
 {
     if kind_at(kinds, p) == Terminal::LEFT_PARENTHESIS {
-        return on(p + 1, Mode::BEFORE);
+        on(p + 1, Mode::BEFORE)
+    } else {
+        lines::assignment(text, kinds, places, lengths, cells, p, u)
     }
-    lines::assignment(text, kinds, places, lengths, cells, p, u)
 }
 
 // Behind an assignment: a parenthesis closes, `and` goes on, or the postcondition ends.
@@ -118,14 +107,12 @@ fn after(text: &[u8], kinds: &[u8], places: &[usize], lengths: &[usize], p: usiz
     requires { p ≤ token_limit }
     ensures { PlainSteps behind (source text.now kinds.now places.now lengths.now) p result }
 {
-    let k = kind_at(kinds, p);
-    if k == Terminal::RIGHT_PARENTHESIS {
-        return on(p + 1, Mode::BEHIND);
-    }
-    if k == Terminal::AND {
-        return on(p + 1, Mode::BEFORE);
-    }
-    on(p + 1, Mode::ROW)
+    let mode = match kind_at(kinds, p) {
+        Terminal::RIGHT_PARENTHESIS => Mode::BEHIND,
+        Terminal::AND => Mode::BEFORE,
+        _ => Mode::ROW,
+    };
+    on(p + 1, mode)
 }
 
 // One turn, from the token `p` on. The parts of an expression are written from the part `u` on, as far as there is room.
@@ -145,11 +132,9 @@ pub fn step(
     if TokenList::LIMIT < p {
         return stuck();
     }
-    if mode == Mode::ROW {
-        return lines::line(text, kinds, places, lengths, cells, p, u);
+    match mode {
+        Mode::ROW => lines::line(text, kinds, places, lengths, cells, p, u),
+        Mode::BEFORE => before(text, kinds, places, lengths, cells, p, u),
+        _ => after(text, kinds, places, lengths, p),
     }
-    if mode == Mode::BEFORE {
-        return before(text, kinds, places, lengths, cells, p, u);
-    }
-    after(text, kinds, places, lengths, p)
 }

@@ -18,20 +18,12 @@ fn shape(k: u8) -> u8
     ensures { result ≡ letter (shape_outside k) }
 {
     match k {
-        Terminal::PLAN => b't',
-        Terminal::ACTION => b't',
-        Terminal::ENQUIRY => b't',
+        Terminal::PLAN | Terminal::ACTION | Terminal::ENQUIRY => b't',
         Terminal::DATA => b'd',
-        Terminal::CAPTION => b'e',
-        Terminal::DESCRIPTION => b'e',
-        Terminal::PRECONDITION => b'e',
-        Terminal::WAIT_CONDITION => b'e',
-        Terminal::TERMINATE => b'e',
-        Terminal::TRIGGER => b'n',
-        Terminal::COMPONENT => b'n',
-        Terminal::SOURCE => b'n',
-        Terminal::TERMINAL => b'y',
-        Terminal::MANDATORY => b'y',
+        Terminal::CAPTION | Terminal::DESCRIPTION | Terminal::PRECONDITION => b'e',
+        Terminal::WAIT_CONDITION | Terminal::TERMINATE => b'e',
+        Terminal::TRIGGER | Terminal::COMPONENT | Terminal::SOURCE => b'n',
+        Terminal::TERMINAL | Terminal::MANDATORY => b'y',
         Terminal::SCHEDULE_CONSTRAINT => b'c',
         Terminal::POSTCONDITION => b'p',
         _ => b'.',
@@ -42,13 +34,7 @@ fn shape(k: u8) -> u8
 fn large(depth: usize, longest: usize) -> bool
     ensures { IsLarge depth longest result }
 {
-    if Expression::DEPTH < depth {
-        return true;
-    }
-    if List::LIST_LIMIT < longest {
-        return true;
-    }
-    false
+    Expression::DEPTH < depth || List::LIST_LIMIT < longest
 }
 
 // `plan :: name ;`
@@ -57,20 +43,12 @@ fn task(text: &[u8], kinds: &[u8], places: &[usize], lengths: &[usize], p: usize
     ensures { Plain task_line (source text.now kinds.now places.now lengths.now) p result }
 {
     Passed {
-        ok: true,
-        next: p + 4,
-        mode: Mode::ROW,
         row: true,
         kind: kind_at(kinds, p),
-        word: 0,
         named: true,
         name: p + 2,
         place: cell(places, p + 2),
-        first: 0,
-        end: 0,
-        start: 0,
-        large: false,
-        flag: 0,
+        ..on(p + 4, Mode::ROW)
     }
 }
 
@@ -80,20 +58,13 @@ fn data_item(text: &[u8], kinds: &[u8], places: &[usize], lengths: &[usize], p: 
     ensures { Plain data_lines (source text.now kinds.now places.now lengths.now) p result }
 {
     Passed {
-        ok: true,
-        next: p + 8,
-        mode: Mode::ROW,
         row: true,
         kind: Terminal::DATA,
-        word: 0,
         named: true,
         name: p + 2,
         place: cell(places, p + 2),
-        first: 0,
-        end: 0,
-        start: 0,
-        large: false,
         flag: guideline_rows::declared(text, places, lengths, p + 6),
+        ..on(p + 8, Mode::ROW)
     }
 }
 
@@ -119,20 +90,14 @@ fn expression(
         return stuck();
     }
     Passed {
-        ok: true,
-        next: n + 1,
-        mode: Mode::ROW,
         row: true,
         kind: kind_at(kinds, p),
         word: cell(places, p),
-        named: false,
-        name: 0,
-        place: 0,
         first: u,
         end: e.used,
         start: cell(places, p + 2),
         large: large(e.depth, e.longest),
-        flag: 0,
+        ..on(n + 1, Mode::ROW)
     }
 }
 
@@ -142,20 +107,13 @@ fn name(text: &[u8], kinds: &[u8], places: &[usize], lengths: &[usize], p: usize
     ensures { Plain name_line (source text.now kinds.now places.now lengths.now) p result }
 {
     Passed {
-        ok: true,
-        next: p + 4,
-        mode: Mode::ROW,
         row: true,
         kind: kind_at(kinds, p),
         word: cell(places, p),
         named: true,
         name: p + 2,
         place: cell(places, p + 2),
-        first: 0,
-        end: 0,
-        start: 0,
-        large: false,
-        flag: 0,
+        ..on(p + 4, Mode::ROW)
     }
 }
 
@@ -165,20 +123,11 @@ fn answer(text: &[u8], kinds: &[u8], places: &[usize], lengths: &[usize], p: usi
     ensures { Plain answer_line (source text.now kinds.now places.now lengths.now) p result }
 {
     Passed {
-        ok: true,
-        next: p + 4,
-        mode: Mode::ROW,
         row: true,
         kind: kind_at(kinds, p),
         word: cell(places, p),
-        named: false,
-        name: 0,
-        place: 0,
-        first: 0,
-        end: 0,
-        start: 0,
-        large: false,
         flag: guideline_rows::answer(text, places, lengths, p + 2),
+        ..on(p + 4, Mode::ROW)
     }
 }
 
@@ -188,20 +137,13 @@ fn constraint(text: &[u8], kinds: &[u8], places: &[usize], lengths: &[usize], p:
     ensures { Plain constraint_line (source text.now kinds.now places.now lengths.now) p result }
 {
     Passed {
-        ok: true,
-        next: p + 7,
-        mode: Mode::ROW,
         row: true,
         kind: Terminal::SCHEDULE_CONSTRAINT,
         word: cell(places, p),
         named: true,
         name: p + 4,
         place: cell(places, p + 4),
-        first: 0,
-        end: 0,
-        start: 0,
-        large: false,
-        flag: 0,
+        ..on(p + 7, Mode::ROW)
     }
 }
 
@@ -211,20 +153,10 @@ fn postcondition(text: &[u8], kinds: &[u8], places: &[usize], lengths: &[usize],
     ensures { Plain postcondition_word (source text.now kinds.now places.now lengths.now) p result }
 {
     Passed {
-        ok: true,
-        next: p + 2,
-        mode: Mode::BEFORE,
         row: true,
         kind: Terminal::POSTCONDITION,
         word: cell(places, p),
-        named: false,
-        name: 0,
-        place: 0,
-        first: 0,
-        end: 0,
-        start: 0,
-        large: false,
-        flag: 0,
+        ..on(p + 2, Mode::BEFORE)
     }
 }
 
@@ -246,12 +178,8 @@ pub fn assignment(
         return stuck();
     }
     Passed {
-        ok: true,
-        next: e.next,
-        mode: Mode::BEHIND,
         row: true,
         kind: Terminal::EQUALS,
-        word: 0,
         named: true,
         name: p,
         place: cell(places, p),
@@ -259,7 +187,7 @@ pub fn assignment(
         end: e.used,
         start: cell(places, p + 2),
         large: large(e.depth, e.longest),
-        flag: 0,
+        ..on(e.next, Mode::BEHIND)
     }
 }
 

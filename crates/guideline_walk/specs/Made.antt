@@ -1,6 +1,6 @@
 -- What the walk has to do: count what the rows of a guideline amount to, and, where there is room and no token is past a limit, write their encoding. Definitions only.
-use Rattle.std.specs.Prelude.{ℕ, ◌+◌, ◌*◌, ◌≤◌, ◌<◌, ◌≡◌, Bool, true, false, cond, ◌||◌, List, [], ◌∷◌, eqb, ltb, length, get_or}
-use Rattle.std.proofs.Math.Option.{Option, none, some}
+use Rattle.std.specs.Prelude.{ℕ, ◌+◌, ◌*◌, ◌≤◌, ◌<◌, ◌≡◌, Bool, true, false, cond, ◌||◌, List, [], ◌∷◌, eqb, ltb, length}
+use Rattle.std.proofs.Math.Option.{Option}
 use Rattle.paper_guideline.specs.Limits.{guideline_limit, token_limit, part_limit}
 use Rattle.paper_tokens.specs.Tokens.{“plan”, “action”, “enquiry”, “data”, “=”, “source”}
 use Rattle.paper_tokens.specs.Lexical.{Token}
@@ -13,7 +13,7 @@ use Rattle.leaves.specs.declared.names.Span.{Span}
 use Rattle.leaves.specs.Source.{Source, source, Stand}
 use Rattle.pool.specs.Written.{Written}
 use Rattle.pool.specs.Pooled.{nowhere, Fits}
-use Rattle.guideline_rows.specs.Rows.{Row, flatten, name_of, expression_of}
+use Rattle.guideline_rows.specs.Rows.{Row, flatten, expression_of}
 use Rattle.guideline_rows.specs.Sizes.{size_in, first_of, end_of, HeldIn, parts_in}
 use Rattle.guideline_rows.specs.Tally.{of_kind, row_expressions, LargeAt}
 use Rattle.guideline_rows.specs.Encoded.{name_text, expression_text, row_text, text_of, behind_name, expression_parts, parts_of, name_handle, row_cells, cells_of}

@@ -1,5 +1,5 @@
 -- Laws of one row: its name, the texts of its expression, its eight cells, and all of it.
-use Rattle.std.specs.Prelude.{ℕ, suc, ◌+◌, ◌*◌, ◌/◌, ◌≤◌, ◌<◌, ◌≡◌, refl, Bool, true, false, List, [], ◌∷◌, ◌++◌, length, get_or, set}
+use Rattle.std.specs.Prelude.{ℕ, ◌+◌, ◌*◌, ◌/◌, ◌≤◌, ◌<◌, ◌≡◌, refl, Bool, true, false, List, [], ◌∷◌, length, set}
 use Rattle.std.proofs.Common.{sym, ap, subst, ◌∙◌, arith, length-append, length-set, lt-ltb}
 use Rattle.std.proofs.Math.Option.{Option, none, some}
 use Rattle.std.proofs.Math.Decide.{dec_lt}
@@ -11,7 +11,7 @@ use Rattle.paper_guideline.specs.Limits.{guideline_limit, part_limit}
 use Rattle.paper_guideline.specs.Refusals.{long_name}
 use Rattle.paper_guideline.specs.Structure.{Name, Outermost}
 use Rattle.parts.specs.Texts.{cells, handle}
-use Rattle.parts.specs.Part.{table, size}
+use Rattle.parts.specs.Part.{table}
 use Rattle.parts.specs.Encode.{flat}
 use Rattle.parts.specs.Operands.{size_pos}
 use Rattle.leaves.specs.declared.names.Span.{Span}
@@ -20,18 +20,18 @@ use Rattle.leaves.specs.Cells.{length_cells}
 use Rattle.expression_reader.specs.Reads.{bare_size}
 use Rattle.pool.specs.Written.{Written}
 use Rattle.pool.specs.WrittenLaws.{written_none, written_one, written_more}
-use Rattle.pool.specs.Pooled.{nowhere, Fits, Gathers}
+use Rattle.pool.specs.Pooled.{Fits, Gathers}
 use Rattle.pool.specs.Columns.{Rooms}
 use Rattle.pool.specs.Held.{gathered_in}
-use Rattle.guideline_rows.specs.Rows.{Row, named, name_of, expression_of, kind-of, word_of, flag_of}
+use Rattle.guideline_rows.specs.Rows.{Row, name_of, expression_of, word_of}
 use Rattle.guideline_rows.specs.Sizes.{size_in, first_of, end_of, start_of, HeldIn}
-use Rattle.guideline_rows.specs.Flags.{Spelt, Spells}
-use Rattle.guideline_rows.specs.Encoded.{name_text, expression_text, row_text, behind_name, expression_parts, name_handle, name_place, row_cells}
+use Rattle.guideline_rows.specs.Flags.{Spells}
+use Rattle.guideline_rows.specs.Encoded.{name_text, expression_text, row_text, expression_parts, name_handle, name_place, row_cells}
 use Rattle.guideline_turns.specs.declared.Passed.{Passed}
 use Rattle.guideline_turns.specs.Made.{Named, NameAt, Sound, Told}
 use Rattle.guideline_walk.specs.declared.Totals.{Totals}
 use Rattle.guideline_walk.specs.declared.texts.Moved.{Moved}
-use Rattle.guideline_walk.specs.Made.{low, eight, Puts, SpellsName, NameMoved, MovesName, TextsMoved, MovesTexts, RowLaid, Adds}
+use Rattle.guideline_walk.specs.Made.{low, eight, Puts, SpellsName, NameMoved, MovesName, TextsMoved, MovesTexts, RowLaid}
 
 -- ---- a name
 

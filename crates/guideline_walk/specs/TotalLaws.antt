@@ -1,12 +1,11 @@
 -- Laws of the totals: a row besides adds what it has of each. By cases on the row, and by induction on the rows before it.
-use Rattle.std.specs.Prelude.{ℕ, suc, ◌+◌, ◌*◌, ◌≤◌, ◌<◌, ◌≡◌, refl, Bool, true, false, cond, ◌||◌, ◌⊎◌, List, [], ◌∷◌, ◌++◌, eqb, ltb, length}
+use Rattle.std.specs.Prelude.{ℕ, ◌+◌, ◌≤◌, ◌<◌, ◌≡◌, refl, Bool, true, false, cond, ◌||◌, ◌⊎◌, List, [], ◌∷◌, ◌++◌, eqb, ltb}
 use Rattle.std.proofs.Common.{sym, ap, subst, ◌∙◌, inl, inr, ⊎_elim, arith, length-append, ne_eqb, ltb-true, ltb-false, lt-ltb, le-ltb}
 use Rattle.std.proofs.Math.Option.{Option, none, some}
 use Rattle.paper_expressions.proofs.Laws.Tests.{two, contra}
 use Rattle.paper_guideline.specs.Limits.{token_limit}
 use Rattle.paper_guideline.specs.Structure.{Outermost}
 use Rattle.parts.specs.Operands.{size_pos}
-use Rattle.parts.specs.Part.{size}
 use Rattle.guideline_rows.specs.Rows.{Row, kind-of, expression_of}
 use Rattle.guideline_rows.specs.Sizes.{size_in, end_of}
 use Rattle.guideline_rows.specs.Tally.{of_kind, with, row_expressions, LargeAt, here, later}

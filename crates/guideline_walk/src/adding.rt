@@ -1,5 +1,5 @@
 // What the rows amount to, one more added.
-ghost use Rattle.std.specs.Prelude.{◌≡◌, true, ◌||◌, ◌≤◌};
+ghost use Rattle.std.specs.Prelude.{◌≡◌, ◌≤◌};
 ghost use Rattle.guideline_walk.specs.Made.{one as one_of, least as least_of, then_parts, place_of, Small, Adds};
 
 use super::Totals;
@@ -10,42 +10,21 @@ use terminals::Terminal;
 fn one(k: u8, kind: u8) -> usize
     ensures { (result ≡ one_of k kind) × (result ≤ 1) }
 {
-    if k == kind {
-        return 1;
-    }
-    0
+    usize::from(k == kind)
 }
 
 // The smaller of two places, of which the first is there or not.
 fn least(some: bool, place: usize, start: usize) -> usize
     ensures { result ≡ least_of some place start }
 {
-    if !some {
-        return start;
-    }
-    if start < place {
-        return start;
-    }
-    place
+    if some { place.min(start) } else { start }
 }
 
 // The parts in use, if those of an expression end before `end`.
 fn parts_then(used: usize, end: usize) -> usize
     ensures { result ≡ then_parts used end }
 {
-    if end == 0 {
-        return used;
-    }
-    end
-}
-
-fn either(a: bool, b: bool) -> bool
-    ensures { result ≡ (a || b) }
-{
-    if a {
-        return true;
-    }
-    b
+    if end == 0 { used } else { end }
 }
 
 // The smallest place of a large expression, with that of the row besides.
@@ -53,9 +32,10 @@ fn place(w: Totals, t: Passed) -> usize
     ensures { result ≡ place_of w t }
 {
     if t.large {
-        return least(w.large, w.place, t.start);
+        least(w.large, w.place, t.start)
+    } else {
+        w.place
     }
-    w.place
 }
 
 // The row besides; `o` is the place behind its texts.
@@ -74,7 +54,7 @@ pub fn add(w: Totals, t: Passed, o: usize) -> Totals
         items: w.items + one(k, Terminal::DATA),
         assignments: w.assignments + one(k, Terminal::EQUALS),
         sources: w.sources + one(k, Terminal::SOURCE),
-        large: either(w.large, t.large),
+        large: w.large || t.large,
         place: place(w, t),
     }
 }

@@ -12,10 +12,7 @@ const CELL: usize = 4_294_967_296;
 fn low(x: usize) -> u32
     ensures { result ≡ low_of x }
 {
-    if x < CELL {
-        return x as u32;
-    }
-    0
+    if x < CELL { x as u32 } else { 0 }
 }
 
 // Writes the row `n` that a turn gave, whose name has the handle `h`: its kind and the place of its word, its name and where it stands,
@@ -27,12 +24,12 @@ pub fn put(rows: &mut [u32], n: usize, t: Passed, h: u32)
         return;
     }
     let i = n * Row::CELLS;
-    rows[i] = t.kind as u32;
+    rows[i] = u32::from(t.kind);
     rows[i + Row::WORD] = low(t.word);
     rows[i + Row::NAME] = h;
     rows[i + Row::PLACE] = low(t.place);
     rows[i + Row::FIRST] = low(t.first);
     rows[i + Row::START] = low(t.start);
     rows[i + Row::END] = low(t.end);
-    rows[i + Row::FLAG] = t.flag as u32;
+    rows[i + Row::FLAG] = u32::from(t.flag);
 }

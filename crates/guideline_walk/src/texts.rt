@@ -20,13 +20,11 @@ fn name_at(text: &[u8], places: &[usize], lengths: &[usize], j: usize) -> Span
     ensures { SpellsName text.now places.now lengths.now j result }
 {
     let s = spelt(text, places, lengths, j);
-    if Guideline::LIMIT < text.len() {
-        return Span { at: 0, n: 0 };
+    if Guideline::LIMIT < text.len() || HANDLE <= s.n {
+        Span { at: 0, n: 0 }
+    } else {
+        s
     }
-    if HANDLE <= s.n {
-        return Span { at: 0, n: 0 };
-    }
-    s
 }
 
 // Moves the name that the token `j` is, if the row has one, to the bytes from `o` on.
@@ -74,7 +72,8 @@ pub fn move_texts(
     ensures { MovesTexts text.now cells.old cells.new bytes.old bytes.new first end o result }
 {
     if end == 0 {
-        return o;
+        o
+    } else {
+        gather(text, cells, first, end, bytes, o)
     }
-    gather(text, cells, first, end, bytes, o)
 }

@@ -1,5 +1,5 @@
 -- Laws on the bytes of a part of a text: one by one, without their quotes, and against a table. By induction on how many there are.
-use Rattle.std.specs.Prelude.{ℕ, zero, suc, ◌+◌, ◌*◌, ◌-◌, ◌≤◌, ◌<◌, ◌≡◌, refl, Bool, true, false, ◌||◌, List, [], ◌∷◌, eqb, get_or, length}
+use Rattle.std.specs.Prelude.{ℕ, zero, suc, ◌+◌, ◌*◌, ◌-◌, ◌≤◌, ◌<◌, ◌≡◌, refl, Bool, true, false, ◌||◌, List, [], ◌∷◌, eqb, get_or, take, drop, length}
 use Rattle.std.proofs.Common.{sym, ap, ◌∙◌, ⊎_elim, not-suc-le-zero, add-one, arith, drop-cons, ne_eqb}
 use Rattle.paper_expressions.proofs.Laws.Tests.{two}
 use Rattle.paper_expressions.proofs.Laws.Search.{sameb, same_reflects, reflects_true, true_reflects}
@@ -81,3 +81,28 @@ module _ (b : List ℕ) (i m : ℕ) (h : 0 < m) where
 
   pub unsigned_plain : ¬ (get_or b i 0 ≡ 45) → (false ≡ minus_first (cells b i m)) × (cells b i m ≡ unsigned (cells b i m))
   unsigned_plain e = (rw (cells_more b i m h, ne_eqb (get_or b i 0) 45 e), rw (cells_more b i m h, ne_eqb (get_or b i 0) 45 e))
+
+-- ---- a part of a text, as a slice
+
+pub sliced : (b : List ℕ) (i m : ℕ) → i + m ≤ length b → take (i + m - i) (drop i b) ≡ cells b i m
+sliced b i m h = let e : i + m - i ≡ m = omega arith in rw e (part_cells b i m h)
+
+-- without the first k bytes
+pub drop_cells : (b : List ℕ) (i m k : ℕ) → drop k (cells b i m) ≡ cells b (i + k) (m - k)
+drop_cells b i m zero =
+    let e : i + 0 ≡ i = omega arith in
+    let f : m - 0 ≡ m = omega arith in
+    rw (e, f)
+drop_cells b i zero (suc k) = let e : 0 - suc k ≡ 0 = omega arith in rw e
+drop_cells b i (suc m) (suc k) =
+    let e : i + suc k ≡ suc i + k = omega arith in
+    let f : suc m - suc k ≡ m - k = omega arith in
+    rw (e, f) (drop_cells b (suc i) m k)
+
+-- its byte k
+pub cell_at : (b : List ℕ) (i m k : ℕ) → k < m → get_or (cells b i m) k 0 ≡ get_or b (i + k) 0
+cell_at b i zero k h = absurd (not-suc-le-zero h)
+cell_at b i (suc m) zero h = let e : i + 0 ≡ i = omega arith in rw e
+cell_at b i (suc m) (suc k) h =
+    let e : i + suc k ≡ suc i + k = omega arith in
+    rw e (cell_at b (suc i) m k (omega arith))

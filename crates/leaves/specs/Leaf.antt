@@ -14,7 +14,7 @@ use Rattle.paper_guideline.specs.Limits.{guideline_limit}
 use Rattle.paper_guideline.specs.Refusals.{TokenBreach, long_name, long_text, large_integer, large_real}
 use Rattle.paper_tokens.proofs.Laws.TerminalLaws.{terminal_is, one_terminal, atom-kind}
 use Rattle.parts.specs.Codes.{code, kind}
-use Rattle.parts.specs.Texts.{cells, handle, text_at_fn, text_of, literal}
+use Rattle.parts.specs.Texts.{cells, text_at_fn, text_of, literal}
 use Rattle.parts.specs.Part.{Load, OpLoad}
 use Rattle.leaves.specs.declared.Word.{Word}
 use Rattle.leaves.specs.Cells.{part_cells, length_cells}

@@ -21,23 +21,14 @@ pub struct Word {
 pub fn cell(col: &[usize], p: usize) -> usize
     ensures { result ≡ get_or col.now p 0 }
 {
-    if p < col.len() {
-        return col[p];
-    }
-    0
+    if p < col.len() { col[p] } else { 0 }
 }
 
 // Whether the `n` bytes from `at` on are in a text.
 pub fn fits(text: &[u8], at: usize, n: usize) -> bool
     ensures { (result ≡ true → at + n ≤ length text.now) × (at + n ≤ length text.now → result ≡ true) }
 {
-    if text.len() < at {
-        return false;
-    }
-    if text.len() - at < n {
-        return false;
-    }
-    true
+    at <= text.len() && n <= text.len() - at
 }
 
 // The part that a token of terminal `k` is by itself.
@@ -45,37 +36,25 @@ pub fn leaf(text: &[u8], k: u8, at: usize, n: usize) -> Word
     requires { at + n ≤ length text.now }
     ensures { SaysLeaf text.now k at n result }
 {
-    if k == Terminal::INTEGER {
-        let x = literals::integer(text, at, n);
-        return Word {
+    match k {
+        Terminal::INTEGER => Word {
             kind: Code::INTEGER as u8,
-            load: x,
-        };
-    }
-    if k == Terminal::FLOAT {
-        let x = literals::float(text, at, n);
-        return Word {
+            load: literals::integer(text, at, n),
+        },
+        Terminal::FLOAT => Word {
             kind: Code::FLOAT as u8,
-            load: x,
-        };
-    }
-    let s = names::inside(text, at, n);
-    let x = names::handle(s.at, s.n);
-    if k == Terminal::STRING {
-        return Word {
+            load: literals::float(text, at, n),
+        },
+        Terminal::STRING => Word {
             kind: Code::STRING as u8,
-            load: x,
-        };
+            load: names::inside(text, at, n).handle(),
+        },
+        Terminal::OTHER_ATOM..=Terminal::DATA_TYPE => Word {
+            kind: Code::ATOM as u8,
+            load: names::inside(text, at, n).handle(),
+        },
+        _ => Word { kind: 0, load: 0 },
     }
-    if Terminal::OTHER_ATOM <= k {
-        if k <= Terminal::DATA_TYPE {
-            return Word {
-                kind: Code::ATOM as u8,
-                load: x,
-            };
-        }
-    }
-    Word { kind: 0, load: 0 }
 }
 
 // The part of a call whose functor name is an atom: an operator of section 11, or none of its with the name as its load.
@@ -85,9 +64,10 @@ pub fn head(text: &[u8], at: usize, n: usize) -> Word
 {
     let s = names::inside(text, at, n);
     let k = names::functor(text, s.at, s.n);
-    if k == Code::NO_SUCH as u8 {
-        let x = names::handle(s.at, s.n);
-        return Word { kind: k, load: x };
-    }
-    Word { kind: k, load: 0 }
+    let x = if k == Code::NO_SUCH as u8 {
+        s.handle()
+    } else {
+        0
+    };
+    Word { kind: k, load: x }
 }

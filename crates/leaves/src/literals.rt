@@ -4,7 +4,6 @@ ghost use Rattle.parts.specs.Texts.{cells};
 ghost use Rattle.leaves.specs.Numbers.{most, grown as grownOf, digits as digits_of_fn, three as threeOf, fixed as fixed_of, minus_first, unsigned as unsignedOf, below as belowOf, load_of as load_of, signed};
 
 use numbers::Num;
-use parts::byte;
 
 const BASE: u32 = 10;
 
@@ -25,10 +24,7 @@ const ZERO: u32 = Num::REAL_LIMIT as u32;
 fn digit(b: u8) -> u32
     ensures { (result ≡ b - 48) × (result ≤ 207) }
 {
-    if b < b'0' {
-        return 0;
-    }
-    (b - b'0') as u32
+    u32::from(b.saturating_sub(b'0'))
 }
 
 // One digit more, up to a number that is past the limit of integers.
@@ -36,11 +32,7 @@ fn grown(n: u32, b: u8) -> u32
     requires { n ≤ most }
     ensures { (result ≡ grownOf n b) × (result ≤ most) }
 {
-    let m = n * BASE + digit(b);
-    if m <= MOST {
-        return m;
-    }
-    MOST
+    MOST.min(n * BASE + digit(b))
 }
 
 // The number that `n` digits write.
@@ -49,12 +41,8 @@ pub fn digits(text: &[u8], at: usize, n: usize) -> u32
     ensures { (result ≡ digits_of_fn 0 (cells text.now at n)) × (result ≤ most) }
 {
     let mut v: u32 = 0;
-    let mut i = at;
-    let mut m = n;
-    while 0 < m {
-        v = grown(v, byte(text, i));
-        i += 1;
-        m -= 1;
+    for b in &text[at..at + n] {
+        v = grown(v, *b);
     }
     v
 }
@@ -64,18 +52,12 @@ fn three(text: &[u8], at: usize, n: usize) -> u32
     requires { at + n ≤ length text.now }
     ensures { (result ≡ threeOf (cells text.now at n)) × (result ≤ 22977) }
 {
-    if n == 0 {
-        return 0;
+    match n {
+        0 => 0,
+        1 => digit(text[at]) * TENTH,
+        2 => digit(text[at]) * TENTH + digit(text[at + 1]) * HUNDREDTH,
+        _ => digit(text[at]) * TENTH + digit(text[at + 1]) * HUNDREDTH + digit(text[at + 2]),
     }
-    let a = digit(byte(text, at)) * TENTH;
-    if n == 1 {
-        return a;
-    }
-    let b = a + digit(byte(text, at + 1)) * HUNDREDTH;
-    if n == 2 {
-        return b;
-    }
-    b + digit(byte(text, at + 2))
 }
 
 // The thousandths that `n` digits with a point write.
@@ -84,16 +66,11 @@ pub fn fixed(text: &[u8], at: usize, n: usize) -> u32
     ensures { (result ≡ fixed_of 0 (cells text.now at n)) × (result ≤ 2000023977) }
 {
     let mut v: u32 = 0;
-    let mut i = at;
-    let mut m = n;
-    while 0 < m {
-        let b = byte(text, i);
-        if b == b'.' {
-            return v * UNIT + three(text, i + 1, m - 1);
+    for (i, b) in text[at..at + n].iter().enumerate() {
+        if *b == b'.' {
+            return v * UNIT + three(text, at + i + 1, n - i - 1);
         }
-        v = grown(v, b);
-        i += 1;
-        m -= 1;
+        v = grown(v, *b);
     }
     v * UNIT
 }
@@ -110,34 +87,25 @@ pub fn unsigned(text: &[u8], at: usize, n: usize) -> Magnitude
     requires { at + n ≤ length text.now }
     ensures { (cells text.now result.at result.n ≡ unsignedOf (cells text.now at n)) × (result.at + result.n ≤ length text.now) × (result.minus ≡ minus_first (cells text.now at n)) }
 {
-    if n == 0 {
-        return Magnitude {
-            minus: false,
-            at: at,
-            n: 0,
-        };
-    }
-    if byte(text, at) == b'-' {
-        return Magnitude {
+    if 0 < n && text[at] == b'-' {
+        Magnitude {
             minus: true,
             at: at + 1,
             n: n - 1,
-        };
-    }
-    Magnitude {
-        minus: false,
-        at: at,
-        n: n,
+        }
+    } else {
+        Magnitude {
+            minus: false,
+            at,
+            n,
+        }
     }
 }
 
 fn below(v: u32) -> u32
     ensures { result ≡ belowOf v }
 {
-    if ZERO < v {
-        return 0;
-    }
-    ZERO - v
+    ZERO.saturating_sub(v)
 }
 
 // The load of a number with its sign.
@@ -145,10 +113,7 @@ fn load_of(minus: bool, v: u32) -> u32
     requires { v ≤ 2000023977 }
     ensures { result ≡ load_of minus v }
 {
-    if minus {
-        return below(v);
-    }
-    ZERO + v
+    if minus { below(v) } else { ZERO + v }
 }
 
 // The load of an integer token of `n` bytes.

@@ -6,7 +6,7 @@ ghost use Rattle.leaves.specs.Places.{entry, Rows, place_from};
 ghost use Rattle.leaves.specs.Names.{name_bytes, name_lengths, name_codes, code_from};
 
 use limits::Guideline;
-use parts::{Code, HANDLE, byte};
+use parts::{Code, HANDLE};
 use words::stands;
 
 // How many names of functors section 11 has, and how many bytes of the table each takes.
@@ -43,22 +43,29 @@ pub struct Span {
     pub n: usize,
 }
 
+impl Span {
+    // The handle of the text that stands there, where place and length are within the limits.
+    pub fn handle(self) -> u32
+        ensures { self.at ≤ 16384 → self.n < 64 → result ≡ self.at * 64 + self.n }
+    {
+        if self.at <= Guideline::LIMIT && self.n < HANDLE {
+            (self.at * HANDLE + self.n) as u32
+        } else {
+            0
+        }
+    }
+}
+
 // The part of a token between its quotes, where it has any.
 pub fn inside(text: &[u8], at: usize, n: usize) -> Span
     requires { at + n ≤ length text.now }
     ensures { (cells text.now result.at result.n ≡ inner (cells text.now at n)) × (result.at + result.n ≤ length text.now) }
 {
-    if n == 0 {
-        return Span { at: at, n: 0 };
+    if 0 < n && matches!(text[at], b'\'' | b'"') {
+        unquoted(at, n)
+    } else {
+        Span { at, n }
     }
-    let b = byte(text, at);
-    if b == b'\'' {
-        return unquoted(at, n);
-    }
-    if b == b'"' {
-        return unquoted(at, n);
-    }
-    Span { at: at, n: n }
 }
 
 // `n` bytes without the first and the last.
@@ -66,25 +73,10 @@ fn unquoted(at: usize, n: usize) -> Span
     requires { (0 < n) × (at + n < 18446744073709551616) }
     ensures { (result.at ≡ at + 1) × (result.n ≡ n - 1 - 1) }
 {
-    if n == 1 {
-        return Span { at: at + 1, n: 0 };
-    }
     Span {
         at: at + 1,
-        n: n - 2,
+        n: n.saturating_sub(2),
     }
-}
-
-// The handle of a text of `n` bytes, where place and length are within the limits.
-pub fn handle(at: usize, n: usize) -> u32
-    ensures { at ≤ 16384 → n < 64 → result ≡ at * 64 + n }
-{
-    if at <= Guideline::LIMIT {
-        if n < HANDLE {
-            return (at * HANDLE + n) as u32;
-        }
-    }
-    0
 }
 
 // The tables are made once for a name, and handed on.
@@ -121,14 +113,12 @@ pub fn place_in(
     requires { (at + n ≤ length text.now) × Rows names.now lengths.now count width }
     ensures { result ≡ place_from (entry names.now lengths.now width) (cells text.now at n) 0 count }
 {
-    let mut i = 0;
-    while i < count {
-        if stands(text, at, n, names, i * width, lengths[i]) {
+    for (i, m) in lengths[..count].iter().enumerate() {
+        if stands(text, at, n, names, i * width, *m) {
             return i;
         }
-        i += 1;
     }
-    i
+    count
 }
 
 // The number of the operator that a functor name means, or that of a functor that section 11 doesn't have.
@@ -140,7 +130,8 @@ pub fn functor(text: &[u8], at: usize, n: usize) -> u8
     let lengths = lengths();
     let i = place_in(text, at, n, &names, &lengths, FUNCTORS, WIDTH);
     if i < FUNCTORS {
-        return code(i);
+        code(i)
+    } else {
+        Code::NO_SUCH as u8
     }
-    Code::NO_SUCH as u8
 }

@@ -1,23 +1,21 @@
 -- The flaws of a row by its kind, and what each test of the code says of them.
-use Rattle.std.specs.Prelude.{ℕ, ◌-◌, ◌≤◌, ◌<◌, ◌≡◌, refl, Bool, true, false, cond, not, ◌&&◌, ◌⊎◌, List, [], ◌∷◌, eqb}
-use Rattle.std.proofs.Common.{sym, ap, subst, ◌∙◌, inl, inr, ⊎_elim, arith, eq-eqb, ne_eqb, eqb-true}
+use Rattle.std.specs.Prelude.{ℕ, ◌-◌, ◌≤◌, ◌<◌, ◌≡◌, refl, Bool, true, false, cond, not, List, [], ◌∷◌, eqb}
+use Rattle.std.proofs.Common.{sym, ap, subst, ◌∙◌, arith, eq-eqb, ne_eqb, eqb-true}
 use Rattle.std.proofs.Math.Decide.{dec_lt}
 use Rattle.paper_expressions.specs.Bytes.{folded, Alike}
-use Rattle.paper_expressions.proofs.Laws.Tests.{contra, two, and_l, and_r, both}
+use Rattle.paper_expressions.proofs.Laws.Tests.{contra, and_l, and_r, both}
 use Rattle.paper_expressions.proofs.Laws.Search.{Reflects, of_yes, of_no, reflects_iff, reflects_not, true_reflects, false_reflects, reflects_true, same_reflects, sameb}
 use Rattle.paper_tokens.specs.Tokens
 use Tokens.{“data”, “=”, “caption”, “description”, “precondition”, “wait-condition”, “postcondition”, “terminate”, “trigger”, “component”, “source”, “schedule-constraint”, “terminal”, “mandatory”}
 use Rattle.parts.specs.Texts.{text_at_fn}
 use Rattle.row_names.specs.Sheet
-use Sheet.{Sheet, task_kind, head_kind, once, parts_from, Task, Of, Same, Clear, Own, Beside, Flaw, spot}
+use Sheet.{Sheet, task_kind, head_kind, once, parts_from, Task, Of, Same, Own, Beside, Flaw}
 use Sheet.{task_again, item_again, attribute_again, component_of_none, component_of_root, component_again, constraint_of_itself, constraint_of_none, target_of_none, source_of_none}
 use Rattle.row_names.specs.Flat.{is_data}
 use Rattle.row_names.specs.Agreement.{in_list}
-use Rattle.row_tests.specs.declared.Found.{Found}
 use Rattle.row_tests.specs.Table.{cell_of, kind_of, sheet, component_named}
-use Rattle.row_tests.specs.Searched.{One, Some, Earlier, Again, Nearest, Start, Finish}
+use Rattle.row_tests.specs.Searched.{One, Some, Again, Nearest, Start, Finish}
 use Rattle.name_tests.specs.Lists.{Lists, Among, listed_rows, listed_at}
-use Rattle.row_tests.specs.Least.{Least}
 
 -- ---- the flaws by kind
 

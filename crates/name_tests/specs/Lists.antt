@@ -1,15 +1,15 @@
 -- The rows that a test chooses, in a list: the one before which k others stand is the k-th. With what a search of the list says of the rows.
-use Rattle.std.specs.Prelude.{ℕ, zero, suc, ◌+◌, ◌-◌, ◌≤◌, ◌<◌, ◌≡◌, refl, Bool, true, false, cond, ◌&&◌, ◌⊎◌, List, ltb, length, get_or, set}
+use Rattle.std.specs.Prelude.{ℕ, zero, suc, ◌+◌, ◌≤◌, ◌<◌, ◌≡◌, refl, Bool, true, false, ◌&&◌, ◌⊎◌, List, ltb, length, get_or, set}
 use Rattle.std.proofs.Common.{sym, ap, subst, ◌∙◌, ⊎_elim, arith, add-one, length-set, get_or-set_same, get_or-set_other, lt-ltb, le-ltb, ltb-true}
 use Rattle.std.proofs.Math.Decide.{dec_lt}
 use Rattle.paper_expressions.specs.Bytes.{Alike}
 use Rattle.paper_expressions.proofs.Laws.Tests.{contra, two, both, and_l, and_r}
-use Rattle.paper_expressions.proofs.Laws.Search.{Reflects, of_yes, of_no, sameb, alikeb, same_reflects, alike_reflects, true_reflects, reflects_true, reflects_iff}
+use Rattle.paper_expressions.proofs.Laws.Search.{Reflects, sameb, alikeb, same_reflects, alike_reflects, true_reflects, reflects_true, reflects_iff}
 use Rattle.parts.specs.Texts.{text_at_fn}
 use Rattle.row_names.specs.Sheet.{task_kind}
 use Rattle.row_names.specs.Flat.{is_data}
 use Rattle.row_tests.specs.Table.{cell_of, kind_of}
-use Rattle.row_tests.specs.Searched.{One, Some}
+use Rattle.row_tests.specs.Searched.{Some}
 
 -- ---- definitions
 

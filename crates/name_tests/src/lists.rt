@@ -15,10 +15,7 @@ use row_tests::texts::same;
 fn wanted(tasks: bool, k: usize) -> bool
     ensures { result ≡ chosen tasks k }
 {
-    if tasks {
-        return is_task(k);
-    }
-    k == Kind::DATA
+    if tasks { is_task(k) } else { k == Kind::DATA }
 }
 
 // The row `i` behind the `m` that were found, if it is wanted: how many there are then.
@@ -42,10 +39,8 @@ pub fn gather(rows: &[u32], n: usize, tasks: bool, list: &mut [u32]) -> usize
     ensures { Gathers tasks rows.now n list.old list.new result }
 {
     let mut m = 0;
-    let mut i = 0;
-    while i < n {
+    for i in 0..n {
         m = put(rows, tasks, list, m, i);
-        i += 1;
     }
     m
 }
@@ -62,9 +57,10 @@ pub fn matches(bytes: &[u8], folded: bool, g: usize, h: usize) -> bool
     ensures { result ≡ matched bytes.now folded g h }
 {
     if folded {
-        return folds(bytes, g, h);
+        folds(bytes, g, h)
+    } else {
+        same(bytes, g, h)
     }
-    same(bytes, g, h)
 }
 
 // Whether the k-th of the list is a row before `to` whose name matches.
@@ -80,10 +76,7 @@ fn is_listed(
     ensures { result ≡ listed_at rows.now bytes.now list.now to folded h k }
 {
     let i = number(list, k);
-    if to <= i {
-        return false;
-    }
-    matches(bytes, folded, handle(rows, i), h)
+    i < to && matches(bytes, folded, handle(rows, i), h)
 }
 
 // Whether one of the first `m` of the list is a row before `to` whose name matches.
@@ -98,12 +91,5 @@ pub fn listed(
 ) -> bool
     ensures { Some (listed_at rows.now bytes.now list.now to folded h) 0 m result }
 {
-    let mut k = 0;
-    while k < m {
-        if is_listed(rows, bytes, list, to, folded, h, k) {
-            return true;
-        }
-        k += 1;
-    }
-    false
+    (0..m).any(|k| is_listed(rows, bytes, list, to, folded, h, k))
 }

@@ -1,12 +1,11 @@
 -- The laws of the answer that Verdict.antt promises, with the steps of the two loops.
-use Rattle.std.specs.Prelude.{ℕ, zero, suc, ◌+◌, ◌-◌, ◌≤◌, ◌<◌, ◌≡◌, refl, Bool, true, false, ◌⊎◌, List, length, get_or, replicate}
+use Rattle.std.specs.Prelude.{ℕ, zero, suc, ◌+◌, ◌≤◌, ◌<◌, ◌≡◌, refl, Bool, true, false, ◌⊎◌, List, length, get_or, replicate}
 use Rattle.std.proofs.Common.{sym, ap, subst, ◌∙◌, inl, inr, ⊎_elim, arith, eqb-true}
 use Rattle.std.proofs.Math.Decide.{dec_lt}
-use Rattle.paper_expressions.specs.View.{At}
 use Rattle.paper_expressions.proofs.Laws.Search.{true_reflects, false_reflects}
 use Rattle.paper_tokens.specs.Tokens.{“data”}
 use Rattle.parts.specs.ItemLaws.{index_of}
-use Rattle.paper_guideline.specs.Structure.{Name, TopLevel, Task, tasks, data_items}
+use Rattle.paper_guideline.specs.Structure.{Name, TopLevel, tasks, data_items}
 use Rattle.paper_guideline.specs.Limits.{task_limit, data_item_limit}
 use Rattle.paper_guideline.specs.Names.{NameBreach}
 use Rattle.guideline_rows.specs.Rows.{flatten}

@@ -1,6 +1,5 @@
 -- What is promised of the answer: the smallest place of a breach of the rules on names, or that there is none. Definitions only; the laws are in proofs/VerdictLaws.antt.
-use Rattle.std.specs.Prelude.{ℕ, zero, suc, ◌+◌, ◌-◌, ◌≤◌, ◌<◌, ◌≡◌, cond, ◌⊎◌, List, length, get_or}
-use Rattle.paper_expressions.specs.View.{At}
+use Rattle.std.specs.Prelude.{ℕ, ◌+◌, ◌≤◌, ◌<◌, ◌≡◌, cond, ◌⊎◌, List, length, get_or}
 use Rattle.paper_guideline.specs.Structure.{TopLevel, tasks, data_items}
 use Rattle.paper_guideline.specs.Limits.{task_limit, data_item_limit}
 use Rattle.paper_guideline.specs.Names.{NameBreach}

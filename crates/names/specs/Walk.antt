@@ -1,12 +1,11 @@
 -- The walk from the root: marks 0 not reached so far, 1 reached, 2 reached and its components followed. Every mark is a reached task; when none is 1, every reached task is marked.
-use Rattle.std.specs.Prelude.{ℕ, zero, suc, ◌+◌, ◌-◌, ◌≤◌, ◌<◌, ◌≡◌, refl, Bool, true, false, ◌⊎◌, List, [], ◌∷◌, length, get_or, set}
-use Rattle.std.proofs.Common.{sym, ap, subst, ◌∙◌, inl, inr, ⊎_elim, arith, length-set, get_or-set_same, get_or-set_other}
+use Rattle.std.specs.Prelude.{ℕ, zero, suc, ◌+◌, ◌-◌, ◌≤◌, ◌<◌, ◌≡◌, refl, Bool, true, false, List, [], ◌∷◌, length, get_or, set}
+use Rattle.std.proofs.Common.{sym, ap, subst, ◌∙◌, arith, length-set, get_or-set_same, get_or-set_other}
 use Rattle.std.proofs.Math.Decide.{dec_lt}
 use Rattle.paper_expressions.proofs.Laws.Tests.{contra}
-use Rattle.paper_expressions.proofs.Laws.Search.{Reflects, of_yes, of_no, reflects_iff, true_reflects, false_reflects}
-use Rattle.paper_tokens.specs.Tokens.{“component”}
+use Rattle.paper_expressions.proofs.Laws.Search.{Reflects, reflects_iff, true_reflects, false_reflects}
 use Rattle.row_names.specs.Sheet
-use Sheet.{Sheet, task_kind, head_kind, Task, Of, Same, Holds, Reached, the_root, by_component}
+use Sheet.{Sheet, task_kind, head_kind, Task, Same, Holds, Reached, the_root, by_component}
 use Rattle.row_tests.specs.Table.{cell_of, kind_of, sheet, component_named}
 use Rattle.row_tests.specs.Searched.{One, Some, Finish}
 use Rattle.name_tests.specs.Lists.{Lists, entry, index, tally}

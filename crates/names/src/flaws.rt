@@ -51,10 +51,8 @@ pub fn flaws(
     ensures { AllFlaws rows.now n bytes.now tasks.now m items.now d n result }
 {
     let mut best = Found::Nowhere;
-    let mut j = 0;
-    while j < n {
+    for j in 0..n {
         best = judge(rows, n, bytes, tasks, m, items, d, j, best);
-        j += 1;
     }
     best
 }

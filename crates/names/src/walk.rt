@@ -54,10 +54,8 @@ fn mark(rows: &[u32], n: usize, bytes: &[u8], tasks: &[u32], t: usize, k: usize,
 fn spread(rows: &[u32], n: usize, bytes: &[u8], tasks: &[u32], m: usize, t: usize, marks: &mut [u8])
     ensures { Spreads rows.now n bytes.now tasks.now m t marks.old marks.new }
 {
-    let mut k = 0;
-    while k < m {
+    for k in 0..m {
         mark(rows, n, bytes, tasks, t, k, marks);
-        k += 1;
     }
 }
 
@@ -65,14 +63,12 @@ fn spread(rows: &[u32], n: usize, bytes: &[u8], tasks: &[u32], m: usize, t: usiz
 fn waiting(marks: &[u8]) -> usize
     ensures { Waits marks.now result }
 {
-    let mut k = 0;
-    while k < marks.len() {
-        if marks[k] == Visit::REACHED {
+    for (k, mark) in marks.iter().enumerate() {
+        if *mark == Visit::REACHED {
             return k;
         }
-        k += 1;
     }
-    k
+    marks.len()
 }
 
 // Marks the tasks that are reached; the first task is the root.
@@ -106,10 +102,8 @@ pub fn unreached(rows: &[u32], tasks: &[u32], m: usize, marks: &[u8], best: Foun
     ensures { Tells rows.now tasks.now marks.now m m best result }
 {
     let mut found = best;
-    let mut k = 0;
-    while k < m {
+    for k in 0..m {
         found = tell(rows, tasks, marks, k, found);
-        k += 1;
     }
     found
 }

@@ -17,28 +17,14 @@ pub const NOWHERE: usize = 67_108_864;
 fn has_text(k: usize) -> bool
     ensures { result ≡ texted k }
 {
-    match k {
-        Code::ATOM => true,
-        Code::STRING => true,
-        Code::NO_SUCH => true,
-        _ => false,
-    }
+    matches!(k, Code::ATOM | Code::STRING | Code::NO_SUCH)
 }
 
 // Whether `n` bytes from `o` on fit `long` bytes and a handle.
 pub fn room(long: usize, o: usize, n: usize) -> bool
     ensures { Rooms long (o + n) result }
 {
-    if NOWHERE <= o {
-        return false;
-    }
-    if NOWHERE - o <= n {
-        return false;
-    }
-    if long < o + n {
-        return false;
-    }
-    true
+    o < NOWHERE && n < NOWHERE - o && o + n <= long
 }
 
 // Copies `n` bytes of the text to the bytes from `o` on.
@@ -46,10 +32,8 @@ pub fn copy(text: &[u8], place: usize, n: usize, bytes: &mut [u8], o: usize)
     requires { (o + n ≤ length bytes.old) × (place + n ≤ nowhereOf + 64) }
     ensures { Written bytes.old bytes.new o (cells_of text.now place n) }
 {
-    let mut j = 0;
-    while j < n {
+    for j in 0..n {
         bytes[o + j] = byte(text, place + j);
-        j += 1;
     }
 }
 
@@ -57,10 +41,7 @@ pub fn copy(text: &[u8], place: usize, n: usize, bytes: &mut [u8], o: usize)
 fn move_text(text: &[u8], cells: &mut [u32], i: usize, bytes: &mut [u8], o: usize) -> usize
     ensures { Moves text.now cells.old cells.new bytes.old bytes.new i o result }
 {
-    if cells.len() / Row::CELLS <= i {
-        return o;
-    }
-    if !has_text(parts::code(cells, i)) {
+    if cells.len() / Row::CELLS <= i || !has_text(parts::code(cells, i)) {
         return o;
     }
     let x = parts::load(cells, i) as usize;
@@ -86,10 +67,8 @@ pub fn gather(
     ensures { Gathers text.now cells.old cells.new bytes.old bytes.new from to o result }
 {
     let mut p = o;
-    let mut i = from;
-    while i < to {
+    for i in from..to {
         p = move_text(text, cells, i, bytes, p);
-        i += 1;
     }
     p
 }

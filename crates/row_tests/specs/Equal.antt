@@ -1,6 +1,7 @@
 -- Two texts, byte by byte: what the first bytes settle, and what they leave to the rest.
 use Rattle.std.specs.Prelude.{ℕ, zero, suc, ◌+◌, ◌-◌, ◌≤◌, ◌<◌, ◌≡◌, refl, Bool, true, false, ◌&&◌, List, eqb, get_or}
 use Rattle.std.proofs.Common.{ap, not-suc-le-zero, add-one, arith, eq-eqb, ne_eqb}
+use Rattle.std.specs.List.{list_all, range_with_len}
 use Rattle.paper_expressions.proofs.Laws.Search.{sameb}
 use Rattle.parts.specs.Texts.{cells}
 
@@ -25,3 +26,11 @@ same_long b zero zero x y h = absurd (h refl)
 same_long b zero (suc m) x y h = refl
 same_long b (suc n) zero x y h = refl
 same_long b (suc n) (suc m) x y h = both_false (eqb (get_or b x 0) (get_or b y 0)) (sameb (cells b (suc x) n) (cells b (suc y) m)) (same_long b n m (suc x) (suc y) (λ e. h (ap suc e)))
+
+-- by a test of each of the n places
+pub same_places : (b : List ℕ) (x y n k : ℕ) → list_all (λ i. eqb (get_or b (x + i) 0) (get_or b (y + i) 0)) (range_with_len k n) ≡ sameb (cells b (x + k) n) (cells b (y + k) n)
+same_places b x y zero k = refl
+same_places b x y (suc n) k =
+    let e : suc (x + k) ≡ x + suc k = omega arith in
+    let f : suc (y + k) ≡ y + suc k = omega arith in
+    rw (add-one k, e, f) (ap (λ (r : Bool). eqb (get_or b (x + k) 0) (get_or b (y + k) 0) && r) (same_places b x y n (suc k)))

@@ -1,6 +1,7 @@
 -- What each search among the rows finds. With the steps of its loop, one row more.
-use Rattle.std.specs.Prelude.{ℕ, zero, suc, ◌+◌, ◌-◌, ◌≤◌, ◌<◌, ◌≡◌, refl, Bool, true, false, List}
-use Rattle.std.proofs.Common.{sym, ap, subst, ◌∙◌, arith, eq-eqb, ne_eqb}
+use Rattle.std.specs.Prelude.{ℕ, zero, suc, ◌+◌, ◌-◌, ◌≤◌, ◌<◌, ◌≡◌, refl, Bool, true, false, ◌||◌, List}
+use Rattle.std.proofs.Common.{sym, ap, subst, ◌∙◌, add-one, arith, eq-eqb, ne_eqb}
+use Rattle.std.specs.List.{list_any, range_with_len}
 use Rattle.std.proofs.Math.Decide.{dec_lt}
 use Rattle.paper_expressions.proofs.Laws.Tests.{contra}
 use Rattle.paper_expressions.proofs.Laws.Search.{Reflects, of_yes, of_no, sameb}
@@ -37,6 +38,20 @@ some_here {i = i} l h e = of_yes (record { i = i; low = l; high = h; passes = e 
 
 pub some_none : {f : ℕ → Bool} {from to : ℕ} → ((i : ℕ) → from ≤ i → i < to → f i ≡ false) → Some f from to false
 some_none h = of_no (λ o. contra (sym (h o.i o.low o.high) ∙ o.passes))
+
+-- the test of each number of a range
+pub some_range : (f : ℕ → Bool) (n from to : ℕ) → to - from ≡ n → Some f from to (list_any f (range_with_len from n))
+some_range f zero from to e = some_none (λ i l h. absurd (omega arith))
+some_range f (suc n) from to e = rw (add-one from) (go (f from) (list_any f (range_with_len (suc from) n)) refl (some_range f n (suc from) to (omega arith)))
+  where
+    go : (b r : Bool) → f from ≡ b → Some f (suc from) to r → Some f from to (b || r)
+    go true r h s = some_here (omega arith) (omega arith) h
+    go false r h (of_yes o) = let l = o.low in of_yes (record { i = o.i; low = omega arith; high = o.high; passes = o.passes })
+    go false r h (of_no none) = of_no (λ o. at o (dec_lt from o.i))
+      where
+        at : (o : One f from to) → Dec (from < o.i) → ⊥
+        at o (yes l) = none (record { i = o.i; low = l; high = o.high; passes = o.passes })
+        at o (no l) = let k = o.low in let z : o.i ≡ from = omega arith in contra (sym h ∙ ap f (sym z) ∙ o.passes)
 
 -- ---- an earlier attribute of the same owner
 

@@ -13,9 +13,10 @@ fn cell(rows: &[u32], i: usize, c: usize) -> usize
     ensures { result ≡ cell_of rows.now i c }
 {
     if i < ROWS {
-        return number(rows, i * Row::CELLS + c);
+        number(rows, i * Row::CELLS + c)
+    } else {
+        0
     }
-    0
 }
 
 // The number of its word's terminal.

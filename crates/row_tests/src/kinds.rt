@@ -8,56 +8,42 @@ use guideline_rows::Kind;
 pub fn is_task(k: usize) -> bool
     ensures { result ≡ task_kind k }
 {
-    match k {
-        Kind::PLAN => true,
-        Kind::ACTION => true,
-        Kind::ENQUIRY => true,
-        _ => false,
-    }
+    matches!(k, Kind::PLAN | Kind::ACTION | Kind::ENQUIRY)
 }
 
 // A task or a data item begins.
 pub fn is_head(k: usize) -> bool
     ensures { result ≡ head_kind k }
 {
-    match k {
-        Kind::PLAN => true,
-        Kind::ACTION => true,
-        Kind::ENQUIRY => true,
-        Kind::DATA => true,
-        _ => false,
-    }
+    matches!(k, Kind::PLAN | Kind::ACTION | Kind::ENQUIRY | Kind::DATA)
 }
 
 // An attribute that stands once: all but component, schedule_constraint and source.
 pub fn once(k: usize) -> bool
     ensures { result ≡ onceOf k }
 {
-    match k {
-        Kind::CAPTION => true,
-        Kind::DESCRIPTION => true,
-        Kind::PRECONDITION => true,
-        Kind::WAIT_CONDITION => true,
-        Kind::POSTCONDITION => true,
-        Kind::TERMINATE => true,
-        Kind::TRIGGER => true,
-        Kind::TERMINAL => true,
-        Kind::MANDATORY => true,
-        _ => false,
-    }
+    matches!(
+        k,
+        Kind::CAPTION
+            | Kind::DESCRIPTION
+            | Kind::PRECONDITION
+            | Kind::WAIT_CONDITION
+            | Kind::POSTCONDITION
+            | Kind::TERMINATE
+            | Kind::TRIGGER
+            | Kind::TERMINAL
+            | Kind::MANDATORY
+    )
 }
 
 // Caption, description, terminal, mandatory: a component or a source may have its own.
 fn inner(k: usize) -> bool
     ensures { result ≡ inner_of k }
 {
-    match k {
-        Kind::CAPTION => true,
-        Kind::DESCRIPTION => true,
-        Kind::TERMINAL => true,
-        Kind::MANDATORY => true,
-        _ => false,
-    }
+    matches!(
+        k,
+        Kind::CAPTION | Kind::DESCRIPTION | Kind::TERMINAL | Kind::MANDATORY
+    )
 }
 
 // Before a row of kind `m` another owner's attributes stand, as far as those of kind `k` go.
@@ -65,12 +51,7 @@ pub fn parts(k: usize, m: usize) -> bool
     ensures { result ≡ parts_from k m }
 {
     match m {
-        Kind::PLAN => true,
-        Kind::ACTION => true,
-        Kind::ENQUIRY => true,
-        Kind::DATA => true,
-        Kind::COMPONENT => inner(k),
-        Kind::SOURCE => inner(k),
-        _ => false,
+        Kind::COMPONENT | Kind::SOURCE => inner(k),
+        _ => is_head(m),
     }
 }

@@ -9,12 +9,7 @@ pub fn nearer(best: Found, p: usize) -> Found
     ensures { result ≡ nearerOf best p }
 {
     match best {
-        Found::Nowhere => Found::At(p),
-        Found::At(q) => {
-            if q <= p {
-                return Found::At(q);
-            }
-            Found::At(p)
-        }
+        Found::At(q) if q <= p => best,
+        _ => Found::At(p),
     }
 }

@@ -12,24 +12,14 @@ use guideline_rows::Kind;
 fn is_named(rows: &[u32], bytes: &[u8], h: usize, i: usize) -> bool
     ensures { result ≡ component_named rows.now bytes.now h i }
 {
-    if kind(rows, i) != Kind::COMPONENT {
-        return false;
-    }
-    same(bytes, handle(rows, i), h)
+    kind(rows, i) == Kind::COMPONENT && same(bytes, handle(rows, i), h)
 }
 
 // Whether a component among the rows `from` up to `to` has the name `h`.
 pub fn named(rows: &[u32], bytes: &[u8], from: usize, to: usize, h: usize) -> bool
     ensures { Some (component_named rows.now bytes.now h) from to result }
 {
-    let mut i = from;
-    while i < to {
-        if is_named(rows, bytes, h, i) {
-            return true;
-        }
-        i += 1;
-    }
-    false
+    (from..to).any(|i| is_named(rows, bytes, h, i))
 }
 
 // Whether an earlier row of the same owner has the kind of the row `j`.
@@ -37,9 +27,7 @@ pub fn again(rows: &[u32], j: usize) -> bool
     ensures { Again rows.now j result }
 {
     let k = kind(rows, j);
-    let mut i = j;
-    while 0 < i {
-        i -= 1;
+    for i in (0..j).rev() {
         let m = kind(rows, i);
         if m == k {
             return true;
@@ -55,9 +43,7 @@ pub fn again(rows: &[u32], j: usize) -> bool
 pub fn owner(rows: &[u32], j: usize) -> usize
     ensures { Nearest rows.now j result }
 {
-    let mut i = j;
-    while 0 < i {
-        i -= 1;
+    for i in (0..j).rev() {
         if kind(rows, i) == Kind::COMPONENT {
             return i;
         }
@@ -69,12 +55,10 @@ pub fn owner(rows: &[u32], j: usize) -> usize
 pub fn start(rows: &[u32], j: usize) -> usize
     ensures { Start rows.now j result }
 {
-    let mut i = j;
-    while 0 < i {
-        if is_head(kind(rows, i - 1)) {
-            return i;
+    for i in (0..j).rev() {
+        if is_head(kind(rows, i)) {
+            return i + 1;
         }
-        i -= 1;
     }
     0
 }
@@ -86,12 +70,10 @@ pub fn finish(rows: &[u32], n: usize, j: usize) -> usize
     if n <= j {
         return n;
     }
-    let mut i = j + 1;
-    while i < n {
+    for i in j + 1..n {
         if is_head(kind(rows, i)) {
             return i;
         }
-        i += 1;
     }
     n
 }

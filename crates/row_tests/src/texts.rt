@@ -9,19 +9,7 @@ pub fn same(bytes: &[u8], g: usize, h: usize) -> bool
     ensures { result ≡ sameb (text_at_fn bytes.now g) (text_at_fn bytes.now h) }
 {
     let n = g % HANDLE;
-    if n != h % HANDLE {
-        return false;
-    }
-    let mut x = g / HANDLE;
-    let mut y = h / HANDLE;
-    let mut m = n;
-    while 0 < m {
-        if byte(bytes, x) != byte(bytes, y) {
-            return false;
-        }
-        x += 1;
-        y += 1;
-        m -= 1;
-    }
-    true
+    let x = g / HANDLE;
+    let y = h / HANDLE;
+    n == h % HANDLE && (0..n).all(|i| byte(bytes, x + i) == byte(bytes, y + i))
 }

@@ -1,23 +1,21 @@
 -- The test whether one token names something left out, as it is made: by tables of the words and of the functors, and by the letter of an exponent.
 -- Law: the test decides LeftOut. By computed tests that the tables are the definition's lists.
-use Rattle.std.specs.Prelude.{ℕ, zero, suc, ◌+◌, ◌*◌, ◌≤◌, ◌<◌, ◌≡◌, refl, Bool, true, false, cond, ◌&&◌, ◌||◌, ◌⊎◌, eqb, leb, ltb, length, get_or}
+use Rattle.std.specs.Prelude.{ℕ, zero, suc, ◌+◌, ◌*◌, ◌≤◌, ◌≡◌, refl, Bool, true, false, cond, ◌&&◌, ◌||◌, ◌⊎◌, eqb, leb, ltb, get_or}
 use Prim.Native.String.{String}
-use Rattle.std.proofs.Common.{sym, ap, subst, ◌∙◌, inl, inr, ⊎_elim, not-suc-le-zero, add-one, arith, leb→le, eqb-true, eq-eqb, ne_eqb, le-leb, lt-ltb, le-ltb, ltb-true}
+use Rattle.std.proofs.Common.{sym, ap, subst, ◌∙◌, inl, inr, ⊎_elim, add-one, arith, leb→le, eqb-true, eq-eqb, ne_eqb, le-leb, lt-ltb, le-ltb, ltb-true}
 use mathlib.Core.List.Memᴰ
 use mathlib.Core.List.{List, [], ◌∷◌, map, Memᴰ}
 use Rattle.std.proofs.Math.ListN.{get_or-eq_default}
-use Rattle.std.proofs.lemmas.Bool.{eqb-false}
 use Rattle.paper_expressions.proofs.Laws.Tests.{contra, two, and_l, and_r, every, every_at}
 use Rattle.paper_expressions.specs.Bytes.{bytes}
 use Rattle.paper_expressions.proofs.Laws.Search.{sameb, same_reflects, Reflects, of_yes, of_no, reflects_true, true_reflects}
 use Rattle.paper_tokens.specs.Tokens.{“open”, ‘data-type’, ‘float’, reserved_count}
 use Rattle.paper_grammar.proofs.Laws.Ll.{is_in}
 use Rattle.paper_guideline.proofs.Laws.StructureLaws.{in_list}
-use Rattle.paper_tokens.specs.Lexical.{Rule, atom, Matches, Token, part, inner, HasExponent}
+use Rattle.paper_tokens.specs.Lexical.{Rule, atom, Matches, Token, inner, HasExponent}
 use Rattle.paper_tokens.specs.Terminals.{OneOf, name, Terminal, a_reserved_word, yes_no, a_data_type, another_atom, an_integer, a_float, a_string}
 use Rattle.paper_tokens.proofs.Laws.TerminalLaws.{one_terminal, reserved_below}
 use Rattle.paper_guideline.specs.LeftOut.{left_out_words, left_out_functors, LeftOut, left_out_word, left_out_functor, left_out_exponent, further_on}
-use Rattle.parts.specs.Texts.{cells}
 use Rattle.terminals.specs.Every.{at_below}
 use Rattle.leaves.specs.Places.{entry, Rows, place_from}
 use Rattle.leaves.specs.Leaf.{atom_range}

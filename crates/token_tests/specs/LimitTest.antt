@@ -13,7 +13,6 @@ use Rattle.paper_tokens.specs.Lexical.{Token, inner}
 use Rattle.paper_tokens.specs.Terminals.{name, Terminal, a_reserved_word, yes_no, a_data_type, another_atom, an_integer, a_float, a_string}
 use Rattle.paper_tokens.proofs.Laws.TerminalLaws.{one_terminal, reserved_below}
 use Rattle.paper_guideline.specs.Refusals.{TokenBreach, long_name, long_text, large_integer, large_real, long_fraction}
-use Rattle.parts.specs.Texts.{cells}
 use Rattle.leaves.specs.Leaf.{atom_range}
 use Rattle.leaves.specs.Numbers
 use Numbers.{most, grown, unsigned, digits, fixed, all_digits, all_fixed, digits_are, fixed_is, whole_is, whole_plain, thousandths_is, thousandths_plain, size_of_negative}

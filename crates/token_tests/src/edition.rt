@@ -7,7 +7,6 @@ ghost use Rattle.paper_guideline.specs.LeftOut.{left_out_words};
 ghost use Rattle.token_tests.specs.LeftOutTest.{name_bytes, name_lengths, named_from, left_out_test};
 
 use leaves::names::{inside, place_in};
-use parts::byte;
 use terminals::Terminal;
 
 // How many functors are left out, and how many bytes of the table each takes.
@@ -27,18 +26,37 @@ const LENGTHS: [usize; FUNCTORS] = [16, 14, 14, 5, 4, 9, 3, 3, 2, 3, 3, 3, 4, 4,
 pub fn is_word(k: u8) -> bool
     ensures { result ≡ is_in k left_out_words }
 {
-    match k {
-        Terminal::DIRECTIVES | Terminal::TASK | Terminal::DECISION | Terminal::PROCEDURE => true,
-        Terminal::CONTEXT | Terminal::GOAL | Terminal::ABORT | Terminal::PARAMETERS => true,
-        Terminal::AUTONOMOUS | Terminal::OPTIONAL | Terminal::LTWH | Terminal::CYCLE_UNTIL => true,
-        Terminal::NUMBER_OF_CYCLES | Terminal::CYCLE_REPEAT | Terminal::PARAM_VALUE => true,
-        Terminal::RANGE | Terminal::DEFAULT_VALUE | Terminal::TRUE_VALUE => true,
-        Terminal::FALSE_VALUE | Terminal::MANDATORY_VALIDATION | Terminal::DERIVATION => true,
-        Terminal::UNIT | Terminal::RESULT_OF | Terminal::NETSUPPORT => true,
-        Terminal::NETSUPPORT_UPPER | Terminal::HASH => true,
-        Terminal::PLUS_PLUS | Terminal::COLON => true,
-        _ => false,
-    }
+    matches!(
+        k,
+        Terminal::DIRECTIVES
+            | Terminal::TASK
+            | Terminal::DECISION
+            | Terminal::PROCEDURE
+            | Terminal::CONTEXT
+            | Terminal::GOAL
+            | Terminal::ABORT
+            | Terminal::PARAMETERS
+            | Terminal::AUTONOMOUS
+            | Terminal::OPTIONAL
+            | Terminal::LTWH
+            | Terminal::CYCLE_UNTIL
+            | Terminal::NUMBER_OF_CYCLES
+            | Terminal::CYCLE_REPEAT
+            | Terminal::PARAM_VALUE
+            | Terminal::RANGE
+            | Terminal::DEFAULT_VALUE
+            | Terminal::TRUE_VALUE
+            | Terminal::FALSE_VALUE
+            | Terminal::MANDATORY_VALIDATION
+            | Terminal::DERIVATION
+            | Terminal::UNIT
+            | Terminal::RESULT_OF
+            | Terminal::NETSUPPORT
+            | Terminal::NETSUPPORT_UPPER
+            | Terminal::HASH
+            | Terminal::PLUS_PLUS
+            | Terminal::COLON
+    )
 }
 
 // Both tables are made once for a name, and handed on.
@@ -68,10 +86,7 @@ fn functor(text: &[u8], at: usize, n: usize) -> bool
 fn power(b: u8) -> bool
     ensures { result ≡ begins_exponent b }
 {
-    match b {
-        b'D'..=b'E' | b'd'..=b'e' => true,
-        _ => false,
-    }
+    matches!(b, b'D'..=b'E' | b'd'..=b'e')
 }
 
 // Whether a float has an exponent: one of the letters that begin it.
@@ -79,16 +94,7 @@ fn exponent(text: &[u8], at: usize, n: usize) -> bool
     requires { at + n ≤ length text.now }
     ensures { result ≡ has_exponent (cells text.now at n) }
 {
-    let mut i = at;
-    let mut m = n;
-    while 0 < m {
-        if power(byte(text, i)) {
-            return true;
-        }
-        i += 1;
-        m -= 1;
-    }
-    false
+    text[at..at + n].iter().any(|b| power(*b))
 }
 
 // Whether a token of terminal `k`, with `next` behind it, names something left out.
@@ -96,18 +102,13 @@ pub fn is_left_out(text: &[u8], k: u8, next: u8, at: usize, n: usize) -> bool
     requires { at + n ≤ length text.now }
     ensures { result ≡ left_out_test k next (cells text.now at n) }
 {
-    if k == Terminal::FLOAT {
-        return exponent(text, at, n);
+    match k {
+        Terminal::FLOAT => exponent(text, at, n),
+        0..Terminal::OTHER_ATOM => is_word(k),
+        Terminal::OTHER_ATOM..=Terminal::DATA_TYPE if next == Terminal::LEFT_PARENTHESIS => {
+            let s = inside(text, at, n);
+            functor(text, s.at, s.n)
+        }
+        _ => false,
     }
-    if k < Terminal::OTHER_ATOM {
-        return is_word(k);
-    }
-    if Terminal::DATA_TYPE < k {
-        return false;
-    }
-    if next != Terminal::LEFT_PARENTHESIS {
-        return false;
-    }
-    let s = inside(text, at, n);
-    functor(text, s.at, s.n)
 }

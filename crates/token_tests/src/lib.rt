@@ -56,22 +56,17 @@ fn fails_at(
 {
     let at = cell(places, i);
     let n = cell(lengths, i);
-    if fits(text, at, n) {
-        return fails(test, text, byte(kinds, i), byte(kinds, i + 1), at, n);
-    }
-    false
+    fits(text, at, n) && fails(test, text, kinds[i], byte(kinds, i + 1), at, n)
 }
 
 // The first token that fails it.
 fn first(test: Test, text: &[u8], kinds: &[u8], places: &[usize], lengths: &[usize]) -> Found
     ensures { First (Breaks test) (source text.now kinds.now places.now lengths.now) result }
 {
-    let mut i = 0;
-    while i < kinds.len() {
+    for i in 0..kinds.len() {
         if fails_at(test, text, kinds, places, lengths, i) {
             return Found::At(cell(places, i));
         }
-        i += 1;
     }
     Found::Nowhere
 }
@@ -95,7 +90,8 @@ pub fn limit_at(text: &[u8], k: u8, at: usize, n: usize) -> Limit
     ensures { (at + n ≤ length text.now → result ≡ limit_of k (cells text.now at n)) × (length text.now < at + n → result ≡ Limit.Within) }
 {
     if fits(text, at, n) {
-        return past(text, k, at, n);
+        past(text, k, at, n)
+    } else {
+        Limit::Within
     }
-    Limit::Within
 }

@@ -8,7 +8,6 @@ use leaves::literals::{digits, fixed, unsigned};
 use leaves::names::inside;
 use limits::Literal;
 use numbers::Num;
-use parts::byte;
 use terminals::Terminal;
 use values::Handle;
 
@@ -31,14 +30,10 @@ fn behind(text: &[u8], at: usize, n: usize) -> usize
     requires { at + n ≤ length text.now }
     ensures { result ≡ length (behind_point (cells text.now at n)) }
 {
-    let mut i = at;
-    let mut m = n;
-    while 0 < m {
-        if byte(text, i) == b'.' {
-            return m - 1;
+    for (i, b) in text[at..at + n].iter().enumerate() {
+        if *b == b'.' {
+            return n - i - 1;
         }
-        i += 1;
-        m -= 1;
     }
     0
 }
@@ -50,12 +45,12 @@ fn of_float(text: &[u8], at: usize, n: usize) -> Limit
 {
     let s = unsigned(text, at, n);
     if REAL_LIMIT < fixed(text, s.at, s.n) {
-        return Limit::Real;
+        Limit::Real
+    } else if Literal::DECIMALS < behind(text, at, n) {
+        Limit::Decimals
+    } else {
+        Limit::Within
     }
-    if Literal::DECIMALS < behind(text, at, n) {
-        return Limit::Decimals;
-    }
-    Limit::Within
 }
 
 fn of_integer(text: &[u8], at: usize, n: usize) -> Limit
@@ -64,9 +59,10 @@ fn of_integer(text: &[u8], at: usize, n: usize) -> Limit
 {
     let s = unsigned(text, at, n);
     if INTEGER_LIMIT < digits(text, s.at, s.n) {
-        return Limit::Integer;
+        Limit::Integer
+    } else {
+        Limit::Within
     }
-    Limit::Within
 }
 
 fn of_text(text: &[u8], at: usize, n: usize) -> Limit
@@ -75,9 +71,10 @@ fn of_text(text: &[u8], at: usize, n: usize) -> Limit
 {
     let s = inside(text, at, n);
     if Handle::TEXT_LIMIT < s.n {
-        return Limit::Text;
+        Limit::Text
+    } else {
+        Limit::Within
     }
-    Limit::Within
 }
 
 // The limit that a token of terminal `k` is past.
@@ -85,16 +82,12 @@ pub fn past(text: &[u8], k: u8, at: usize, n: usize) -> Limit
     requires { at + n ≤ length text.now }
     ensures { result ≡ limit_of k (cells text.now at n) }
 {
-    if k == Terminal::INTEGER {
-        return of_integer(text, at, n);
+    match k {
+        Terminal::INTEGER => of_integer(text, at, n),
+        Terminal::FLOAT => of_float(text, at, n),
+        0..Terminal::OTHER_ATOM => Limit::Within,
+        _ => of_text(text, at, n),
     }
-    if k == Terminal::FLOAT {
-        return of_float(text, at, n);
-    }
-    if k < Terminal::OTHER_ATOM {
-        return Limit::Within;
-    }
-    of_text(text, at, n)
 }
 
 // Whether it is past one.
@@ -102,11 +95,5 @@ pub fn is_past_limit(text: &[u8], k: u8, at: usize, n: usize) -> bool
     requires { at + n ≤ length text.now }
     ensures { result ≡ limit_test k (cells text.now at n) }
 {
-    match past(text, k, at, n) {
-        Limit::Within => false,
-        Limit::Text => true,
-        Limit::Integer => true,
-        Limit::Real => true,
-        Limit::Decimals => true,
-    }
+    !matches!(past(text, k, at, n), Limit::Within)
 }

@@ -4,7 +4,7 @@ use Rattle.std.proofs.Math.Option.{Option, none, some}
 use Rattle.paper_expressions.specs.View.{Item}
 use Rattle.paper_tokens.specs.Tokens.{“=”, “caption”, “description”}
 use Rattle.paper_grammar.proofs.Laws.Ll.{is_in}
-use Rattle.paper_guideline.specs.Parts.{Role, condition, wording, assigned_to, Typed}
+use Rattle.paper_guideline.specs.Parts.{condition, wording, assigned_to, Typed}
 use Rattle.guideline_rows.specs.Rows.{Row, a_task, a_data_item, with_expression, with_name, with_answer, a_postcondition, an_assignment}
 use Rattle.row_tests.specs.Table.{cell_of}
 use Rattle.typer.specs.declared.fitting.Role as Code

@@ -31,10 +31,8 @@ pub fn gather(rows: &[u32], n: usize, names: &mut [u32], types: &mut [u8]) -> us
     ensures { Gathers rows.now n names.old types.old names.new types.new result }
 {
     let mut m = 0;
-    let mut i = 0;
-    while i < n {
+    for i in 0..n {
         m = put(rows, names, types, m, i);
-        i += 1;
     }
     m
 }

@@ -18,10 +18,7 @@ const ROOT: usize = 0;
 fn is_wording(k: usize) -> bool
     ensures { result ≡ wording_kind k }
 {
-    if k == Kind::CAPTION {
-        return true;
-    }
-    k == Kind::DESCRIPTION
+    matches!(k, Kind::CAPTION | Kind::DESCRIPTION)
 }
 
 // What the expression of the row is written for: an assignment, a caption or description, or a condition.
@@ -30,12 +27,12 @@ fn role(rows: &[u32], j: usize) -> Role
 {
     let k = kind(rows, j);
     if k == Kind::EQUALS {
-        return Role::Assigned(handle(rows, j));
+        Role::Assigned(handle(rows, j))
+    } else if is_wording(k) {
+        Role::Wording
+    } else {
+        Role::Condition
     }
-    if is_wording(k) {
-        return Role::Wording;
-    }
-    Role::Condition
 }
 
 // Whether the row `j` has an expression that doesn't fit. Types don't depend on the task: the root stands for all.
@@ -72,9 +69,10 @@ fn judge(
     ensures { Judges rows.now (table cells.now bytes.now) names.now types.now j best result }
 {
     if unfit(rows, cells, bytes, names, types, j) {
-        return nearer(best, begin(rows, j));
+        nearer(best, begin(rows, j))
+    } else {
+        best
     }
-    best
 }
 
 // The smallest place at which an expression of the first `n` rows begins that doesn't fit.
@@ -89,10 +87,8 @@ pub fn misfits(
     ensures { AllMisfits rows.now (table cells.now bytes.now) names.now types.now n result }
 {
     let mut best = Found::Nowhere;
-    let mut j = 0;
-    while j < n {
+    for j in 0..n {
         best = judge(rows, cells, bytes, names, types, j, best);
-        j += 1;
     }
     best
 }

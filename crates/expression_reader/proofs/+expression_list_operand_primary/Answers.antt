@@ -1,12 +1,18 @@
 -- Each goal is a step of the reader, for every tree that the tokens have.
-use Rattle.std.proofs.Common.{refl, sym, ◌∙◌, arith}
+use Rattle.std.proofs.Common.{ℕ, ◌≡◌, max, nat_cmp, rules, refl, sym, ◌∙◌, arith}
 use Rattle.std.proofs.Math.ListN.{length-set}
 use borrow.Author.Tests.{not-false, not-true}
 use Rattle.paper_expressions.proofs.Laws.Tests.{contra}
+use Rattle.std.specs.Ordering.{ord_max}
+use Rattle.paper_guideline.specs.Limits.{larger}
+use Rattle.expression_steps.specs.Larger.{larger_max}
 use Rattle.expression_steps.specs.Rows.{beside_none, beside_on, beside_thrice, beside_more}
 use Rattle.expression_reader.specs.Laws.{none_onward, depth_within, inner_read, operand_done, round_done, square_done, call_done, one_done}
 use Rattle.expression_reader.specs.Loops.{ended_stand, group_within, none_ended, elements_first, element_ok, elements_step, stepped_ended, stepped_going, stepped_none, going_first, operand_read, going_done, going_few, going_more}
 use Rattle.expression_reader.proofs.+expression_list_operand_primary.Goals as goal
+
+larger_of : (a b : ℕ) → ord_max nat_cmp a b ≡ larger a b
+larger_of a b = let e : ord_max nat_cmp a b ≡ max a b = search rules in e ∙ larger_max a b
 
 pub expression-loop-ks-init : goal.expression-loop-ks-init
 expression-loop-ks-init t c = (omega arith, refl, refl, refl, omega arith, omega arith, beside_none _ _ _, omega arith, λ b s r e f end y. going_first f y)
@@ -38,7 +44,7 @@ expression-returns-then-l-eq0 t c =
         more = omega arith;
         beside = beside_thrice _ k (omega arith) (omega arith) (omega arith) (omega arith) l.invariant.6 o.beside r.beside;
       };
-      done = λ b s r e f end y. going_done end c.operand-e.ensures (l.invariant.8 b s r e f end y) l.invariant.6.long (depth_within f y) c.level_at-l.ensures c.reduce-r.ensures c.larger-longest.ensures c.if-l-eq0.true;
+      done = λ b s r e f end y. going_done end c.operand-e.ensures (l.invariant.8 b s r e f end y) l.invariant.6.long (depth_within f y) c.level_at-l.ensures c.reduce-r.ensures (c.max-longest.ensures ∙ larger_of l.longest c.operand-e.result.longest) c.if-l-eq0.true;
     }
 
 pub expression-returns-then-m-ge-WAITING : goal.expression-returns-then-m-ge-WAITING
@@ -74,7 +80,7 @@ expression-loop-ks-preserved t c =
       beside_thrice _ k (omega arith) (omega arith) (omega arith) (omega arith) l.invariant.6 o.beside r.beside,
       omega arith,
       λ b s r e f end y.
-          going_more end c.operand-e.ensures (l.invariant.8 b s r e f end y) l.invariant.6.long (depth_within f y) c.level_at-l.ensures c.reduce-r.ensures c.larger-longest.ensures c.kind_at.ensures c.if-l-eq0.false l.invariant.1 l.invariant.2 l.invariant.3,
+          going_more end c.operand-e.ensures (l.invariant.8 b s r e f end y) l.invariant.6.long (depth_within f y) c.level_at-l.ensures c.reduce-r.ensures (c.max-longest.ensures ∙ larger_of l.longest c.operand-e.result.longest) c.kind_at.ensures c.if-l-eq0.false l.invariant.1 l.invariant.2 l.invariant.3,
     )
 
 pub list-returns-then-kind_at-close : goal.list-returns-then-kind_at-close

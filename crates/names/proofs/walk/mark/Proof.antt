@@ -1,5 +1,4 @@
 -- `mark`: a mark that is there stays; a new one is set where the plan leads to the task.
-use mathlib.Core.Path.{◌≡◌}
 use native.Mathlib.Omega.{arith}
 use lib.ListN.{length-set}
 use borrow.Author.Rules.{rules}

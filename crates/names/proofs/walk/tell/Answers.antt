@@ -1,5 +1,4 @@
 -- `tell`: a task without a mark, or with one.
-use borrow.Author.Rules.{rules}
 use Rattle.names.proofs.VerdictLaws.{tell_yes, tell_no}
 use Rattle.names.proofs.walk.tell.Goals as goal
 
