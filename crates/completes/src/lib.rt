@@ -75,13 +75,13 @@ pub fn complete_one(s: &[u32], f: &[u32], pending: Marks, t: usize) -> bool
     requires { t < 32 }
     ensures { result ≡ complete_f s.now f.now pending t }
 {
-    let runs = state::row_is(s, Property::STATE, t, Tag::STATE, State::IN_PROGRESS);
-    let sources = all_answered(
-        s,
-        f,
-        blocks::cell(f, Plan::FIRST_SOURCE + t),
-        blocks::cell(f, Plan::SOURCES + t),
-    );
-    let over = state::cell(f, Plan::CLASS, t) != Class::PLAN || !waits::mark(pending, t);
-    runs && sources && confirmed(s, f, t) && over
+    state::row_is(s, Property::STATE, t, Tag::STATE, State::IN_PROGRESS)
+        && all_answered(
+            s,
+            f,
+            blocks::cell(f, Plan::FIRST_SOURCE + t),
+            blocks::cell(f, Plan::SOURCES + t),
+        )
+        && confirmed(s, f, t)
+        && (state::cell(f, Plan::CLASS, t) != Class::PLAN || !waits::mark(pending, t))
 }
