@@ -1,13 +1,12 @@
 -- One value more for a data item: the first is kept, the same again changes nothing, another gives unknown. By the one form that each value has.
-use Rattle.std.specs.Prelude.{ℕ, ◌+◌, ◌*◌, ◌-◌, ◌/◌, ◌%◌, ◌<◌, ◌≤◌, ◌≡◌, refl, Bool, true, false, ◌↔◌, ◌⊎◌, List, get_or, set, length}
+use Rattle.std.specs.Prelude.{ℕ, ◌+◌, ◌*◌, ◌-◌, ◌/◌, ◌%◌, ◌<◌, ◌≤◌, ◌≡◌, refl, Bool, false, ◌⊎◌, List, get_or, set, length}
 use Rattle.std.proofs.Common.{arith, sym, ap, subst, ◌∙◌, inl, inr, length-set, get_or-set_same, get_or-set_other}
 use Rattle.std.proofs.Math.Decide.{dec_lt}
-use Rattle.std.proofs.Math.Option.{Option, some}
+use Rattle.std.proofs.Math.Option.{some}
 use Rattle.paper_expressions.specs.Values as paper
 use Rattle.paper_expressions.specs.Values.{one, unknown}
 use Rattle.paper_expressions.proofs.Laws.WithinLimits.{Limited, one_limited, unknown_small}
-use Rattle.paper_expressions.proofs.Laws.Tests.{contra}
-use Rattle.state.specs.Items.{Holds, text_place, one_value, holds_as, shape_of, there-of, element, tag_of, number_of, byte_of}
+use Rattle.state.specs.Items.{Holds, text_place, one_value, holds_as}
 use Rattle.values.specs.declared.scalar.Scalar.TheVariants.{Unknown}
 use Rattle.values.specs.declared.value.Value.{Value}
 use Rattle.values.specs.Meaning.{meaning_v, valued, meaning, meaning_l}

@@ -1,9 +1,9 @@
 -- The new values written into the state and the text bytes: of each item with a mark its cells and bytes, and nothing else. By the items passed.
-use Rattle.std.specs.Prelude.{ℕ, ◌+◌, ◌*◌, ◌<◌, ◌≤◌, ◌≡◌, refl, Bool, true, false, ◌↔◌, ◌⊎◌, List, get_or, length}
+use Rattle.std.specs.Prelude.{ℕ, ◌+◌, ◌*◌, ◌<◌, ◌≤◌, ◌≡◌, refl, true, false, ◌↔◌, ◌⊎◌, List, get_or, length}
 use Rattle.std.proofs.Common.{arith, not-suc-le-zero, sym, ap, subst, ◌∙◌, inl, inr}
 use Rattle.std.proofs.Math.Decide.{dec_lt, ℕ_discrete}
 use Rattle.paper_expressions.proofs.Laws.Tests.{contra}
-use Rattle.blocks.specs.Blocks.{Copied, Outside}
+use Rattle.blocks.specs.Blocks.{Copied}
 
 -- an item's cells and bytes in the state are as in the scratch
 pub record New (news texts : List ℕ) (d : ℕ) (s b : List ℕ) : Type 0 where

@@ -46,10 +46,8 @@ fn same(cells: &[u32], out: &[u8], d: usize, news: &[u32], texts: &[u8]) -> bool
     requires { d < 64 }
     ensures { (result ≡ true) ↔ (Same cells.now 0 news.now (36 * d + 1) 34 × Same out.now 0 texts.now (768 * d) 768) }
 {
-    if blocks::same_cells(cells, 0, news, Slot::CELLS * d + Slot::FORM, Form::CELLS) {
-        return blocks::same_bytes(out, 0, texts, Form::BYTES * d, Form::BYTES);
-    }
-    false
+    blocks::same_cells(cells, 0, news, Slot::CELLS * d + Slot::FORM, Form::CELLS)
+        && blocks::same_bytes(out, 0, texts, Form::BYTES * d, Form::BYTES)
 }
 
 // Takes in a value for the item `d`: the first, the same again, or another, which gives unknown.
@@ -113,10 +111,8 @@ fn store_one(news: &[u32], texts: &[u8], d: usize, s: &mut [u32], b: &mut [u8])
 pub fn store(news: &[u32], texts: &[u8], s: &mut [u32], b: &mut [u8])
     ensures { Stored news.now texts.now 64 s.old s.new b.old b.new }
 {
-    let mut d: usize = 0;
-    while d < DataItems::LIMIT {
+    for d in 0..DataItems::LIMIT {
         store_one(news, texts, d, s, b);
-        d += 1;
     }
 }
 
@@ -124,12 +120,5 @@ pub fn store(news: &[u32], texts: &[u8], s: &mut [u32], b: &mut [u8])
 pub fn collided(news: &[u32]) -> bool
     ensures { (result ≡ true) ↔ Collided news.now }
 {
-    let mut d: usize = 0;
-    while d < DataItems::LIMIT {
-        if blocks::cell(news, Slot::CELLS * d) == Slot::COLLIDED {
-            return true;
-        }
-        d += 1;
-    }
-    false
+    (0..DataItems::LIMIT).any(|d| blocks::cell(news, Slot::CELLS * d) == Slot::COLLIDED)
 }

@@ -1,7 +1,7 @@
 -- What a copy and a comparison of n cells promise, and the laws of their loops. By the cells passed.
 use Rattle.std.specs.Prelude.{ℕ, zero, suc, ◌+◌, ◌<◌, ◌≤◌, ◌≡◌, refl, Bool, true, false, ◌↔◌, ◌⊎◌, List, get_or, set, length}
 use Rattle.std.proofs.Common.{arith, not-suc-le-zero, sym, ap, subst, ◌∙◌, inl, inr, length-set, get_or-set_same, get_or-set_other, below_more}
-use Rattle.std.proofs.Math.Decide.{dec_lt, ℕ_discrete}
+use Rattle.std.proofs.Math.Decide.{dec_lt}
 use Rattle.std.proofs.Math.ListN.{get_or-eq_default}
 use Rattle.paper_expressions.proofs.Laws.Tests.{contra}
 use Rattle.parts.specs.Texts.{cells}
@@ -12,35 +12,39 @@ Outside q n i = (i < q) ⊎ (q + n ≤ i)
 
 -- ---- a copy
 
-pub record Copied (from : List ℕ) (p : ℕ) (to : List ℕ) (q n : ℕ) (after : List ℕ) : Type 0 where
+-- of elements of any type, where d stands past the end
+pub record CopiedOf {A : Type 0} (d : A) (from : List A) (p : ℕ) (to : List A) (q n : ℕ) (after : List A) : Type 0 where
   pub size : length after ≡ length to
-  pub same : (k : ℕ) → k < n → q + k < length to → get_or after (q + k) 0 ≡ get_or from (p + k) 0
-  pub other : (i : ℕ) → Outside q n i → get_or after i 0 ≡ get_or to i 0
+  pub same : (k : ℕ) → k < n → q + k < length to → get_or after (q + k) d ≡ get_or from (p + k) d
+  pub other : (i : ℕ) → Outside q n i → get_or after i d ≡ get_or to i d
 
-pub copied_none : (from : List ℕ) (p : ℕ) (to : List ℕ) (q : ℕ) → Copied from p to q 0 to
+abbrev pub Copied : List ℕ → ℕ → List ℕ → ℕ → ℕ → List ℕ → Type 0
+Copied = CopiedOf 0
+
+pub copied_none : {A : Type 0} {d : A} (from : List A) (p : ℕ) (to : List A) (q : ℕ) → CopiedOf d from p to q 0 to
 copied_none from p to q = record { size = refl; same = λ k l m. absurd (not-suc-le-zero l); other = λ i h. refl }
 
-pub copied_more : (from : List ℕ) (p : ℕ) (to : List ℕ) (q k : ℕ) (v u : List ℕ) {x : ℕ} → x ≡ get_or from (p + k) 0 → u ≡ set v (q + k) x → Copied from p to q k v → Copied from p to q (k + 1) u
-copied_more from p to q k v u {x} e f h =
-    subst (Copied from p to q (k + 1)) (sym f)
+pub copied_more : {A : Type 0} {d : A} (from : List A) (p : ℕ) (to : List A) (q k : ℕ) (v u : List A) {x : A} → x ≡ get_or from (p + k) d → u ≡ set v (q + k) x → CopiedOf d from p to q k v → CopiedOf d from p to q (k + 1) u
+copied_more {A} {d} from p to q k v u {x} e f h =
+    subst (CopiedOf d from p to q (k + 1)) (sym f)
     (record { size = length-set v (q + k) x ∙ h.size; same = same; other = other })
   where
-    same : (j : ℕ) → j < k + 1 → q + j < length to → get_or (set v (q + k) x) (q + j) 0 ≡ get_or from (p + j) 0
+    same : (j : ℕ) → j < k + 1 → q + j < length to → get_or (set v (q + k) x) (q + j) d ≡ get_or from (p + j) d
     same j l m = go (dec_lt j k)
       where
-        go : Dec (j < k) → get_or (set v (q + k) x) (q + j) 0 ≡ get_or from (p + j) 0
-        go (yes i) = get_or-set_other v (q + k) (q + j) x 0 (λ z. omega arith) ∙ h.same j i m
+        go : Dec (j < k) → get_or (set v (q + k) x) (q + j) d ≡ get_or from (p + j) d
+        go (yes i) = get_or-set_other v (q + k) (q + j) x d (λ z. omega arith) ∙ h.same j i m
         go (no i) =
-            let d : j ≡ k = omega arith in
+            let e₁ : j ≡ k = omega arith in
             let s = h.size in
-            subst (λ (y : ℕ). get_or (set v (q + k) x) (q + y) 0 ≡ get_or from (p + y) 0) (sym d) (get_or-set_same v (q + k) x 0 (omega arith) ∙ e)
+            subst (λ (y : ℕ). get_or (set v (q + k) x) (q + y) d ≡ get_or from (p + y) d) (sym e₁) (get_or-set_same v (q + k) x d (omega arith) ∙ e)
 
-    other : (i : ℕ) → Outside q (k + 1) i → get_or (set v (q + k) x) i 0 ≡ get_or to i 0
-    other i (inl l) = get_or-set_other v (q + k) i x 0 (λ z. omega arith) ∙ h.other i (inl l)
-    other i (inr l) = get_or-set_other v (q + k) i x 0 (λ z. omega arith) ∙ h.other i (inr (omega arith))
+    other : (i : ℕ) → Outside q (k + 1) i → get_or (set v (q + k) x) i d ≡ get_or to i d
+    other i (inl l) = get_or-set_other v (q + k) i x d (λ z. omega arith) ∙ h.other i (inl l)
+    other i (inr l) = get_or-set_other v (q + k) i x d (λ z. omega arith) ∙ h.other i (inr (omega arith))
 
-pub copied_all : (from : List ℕ) (p : ℕ) (to : List ℕ) (q n k : ℕ) (v : List ℕ) → k ≡ n → Copied from p to q k v → Copied from p to q n v
-copied_all from p to q n k v e h = subst (λ (m : ℕ). Copied from p to q m v) e h
+pub copied_all : {A : Type 0} {d : A} (from : List A) (p : ℕ) (to : List A) (q n k : ℕ) (v : List A) → k ≡ n → CopiedOf d from p to q k v → CopiedOf d from p to q n v
+copied_all {A} {d} from p to q n k v e h = subst (λ (m : ℕ). CopiedOf d from p to q m v) e h
 
 -- ---- a text
 

@@ -1,21 +1,21 @@
 -- Law: the tests on the cells are the condition 8.6.4 of every table that they show.
-use Rattle.std.specs.Prelude.{ℕ, zero, suc, ◌+◌, ◌-◌, ◌<◌, ◌≤◌, ◌≡◌, refl, Bool, true, false, not, ◌&&◌, ◌||◌, ◌↔◌, ◌⊎◌, List, [], ◌∷◌}
-use Rattle.std.proofs.Common.{arith, sym, ap, subst, ◌∙◌, inl, inr}
-use Rattle.std.proofs.Math.Option.{Option, none, some}
+use Rattle.std.specs.Prelude.{ℕ, ◌+◌, ◌<◌, ◌≡◌, Bool, true, false, not, ◌⊎◌, List}
+use Rattle.std.proofs.Common.{arith, ap, subst, inl, inr}
+use Rattle.std.proofs.Math.Option.{Option, some}
 use Rattle.paper_expressions.proofs.Laws.Tests.{two, contra}
 use Rattle.paper_expressions.specs.Values.{in_progress, discarded, completed}
 use Rattle.paper_expressions.specs.View.{At}
 use Rattle.paper_rows.specs.Table.{task, data_item, source, Component, ◌№◌, a_plan, class, state, parent_plan, confirmatory, confirmed, optional, sources, data_item_of, mandatory, requested, RowValue, state_is, class_is, component_is, components_are, truth_row, Table, Contains}
-use Rattle.paper_engine.specs.Conditions.{StartAt, StartConditions, InitialiseConditions, DiscardConditions, Settled, CompleteConditions}
+use Rattle.paper_engine.specs.Conditions.{StartConditions, InitialiseConditions, DiscardConditions, Settled, CompleteConditions}
 use Rattle.state.specs.Cell.{plain_truth, row_is}
-use Rattle.state.specs.Layout.{Rows, row_is_fn, row_test, confirmed_column}
-use Rattle.waits.specs.Booleans.{Tests, all_f, is_and, is_or, is_not, is_if, is_as, is_all}
-use Rattle.waits.specs.Twins.{marked, parent_at, class_f, confirmatory_f, first_at, count_at_fn, item_at, mandatory_f}
+use Rattle.state.specs.Layout.{Rows, row_test, confirmed_column}
+use Rattle.waits.specs.Booleans.{Tests, is_and, is_or, is_not, is_if, is_as, is_all}
+use Rattle.waits.specs.Twins.{marked, parent_at, first_at, count_at_fn, item_at}
 use Rattle.waits.specs.Worked.{Worked, Marks}
 use Rattle.waits.specs.Shows.{test_is, in_test, timed_test, Timed}
 use Rattle.marks.specs.Raise.{Below, below_test}
 use Rattle.discards.specs.DiscardLaws.{child, parent_number}
-use Rattle.completes.specs.Twins.{still_f, idle_f, settled_f, told_f, answered_f, sources_f, confirmed_case, complete_f}
+use Rattle.completes.specs.Twins.{settled_f, answered_f, sources_f, complete_f}
 
 module _ {s : List ℕ} {t : Table} (rows : Rows s t) {f : List ℕ} {w : List (List Bool)} {n : ℕ} (worked : Worked f w n t) where
   in32 : {T : ℕ} → T < n → T < 32

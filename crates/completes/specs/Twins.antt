@@ -1,9 +1,10 @@
 -- 8.6.4 as tests on the tables' cells; and the laws of the loop over the sources.
-use Rattle.std.specs.Prelude.{ℕ, ◌+◌, ◌<◌, ◌≤◌, ◌≡◌, refl, Bool, true, false, not, ◌&&◌, ◌||◌, List, eqb, get_or}
-use Rattle.std.proofs.Common.{arith, sym, ap₂, ◌∙◌}
-use Rattle.paper_expressions.proofs.Laws.Tests.{contra, two}
+use Rattle.std.specs.Prelude.{ℕ, ◌+◌, ◌<◌, ◌≡◌, refl, Bool, true, false, not, ◌&&◌, ◌||◌, List, eqb, get_or}
+use Rattle.std.proofs.Common.{sym, ap₂, ◌∙◌}
+use Rattle.std.proofs.lemmas.Bool.Decides.{same_from_decides}
+use Rattle.paper_expressions.proofs.Laws.Tests.{contra}
 use Rattle.state.specs.Layout.{row_is_fn}
-use Rattle.waits.specs.Booleans.{all_f, all_more, all_none, is_all, Tests}
+use Rattle.waits.specs.Booleans.{all_f, all_more, is_all, Tests}
 use Rattle.waits.specs.Twins.{marked, timed_f, confirmatory_f, class_f, first_at, count_at_fn, item_at, mandatory_f}
 
 abbrev pub still_f : List ℕ → ℕ → Bool
@@ -32,6 +33,10 @@ abbrev pub complete_f : List ℕ → List ℕ → List Bool → ℕ → Bool
 complete_f s f pending T = row_is_fn s 8 T 5 2 && (sources_f s f T && (confirmed_case s f T && (not (class_f f T 1) || not (marked pending T))))
 
 -- ---- the loop
+
+-- what holds of each number below n is the test of all of them
+pub all_tested : (g : ℕ → Bool) (r : Bool) (n : ℕ) → Tests r ((k : ℕ) → k < n → g k ≡ true) → r ≡ all_f g n
+all_tested g r n h = same_from_decides r (all_f g n) h (is_all g (λ k. g k ≡ true) n (λ k l. (λ z. z, λ z. z)))
 
 pub all_on : (g : ℕ → Bool) (i : ℕ) {v : Bool} → v ≡ g i → v ≡ true → true ≡ all_f g i → true ≡ all_f g (i + 1)
 all_on g i e f h = ap₂ ◌&&◌ h (sym f ∙ e) ∙ sym (all_more g i)

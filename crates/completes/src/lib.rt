@@ -17,25 +17,20 @@ fn still(s: &[u32], t: usize) -> bool
     let done = state::row_is(s, Property::STATE, t, Tag::STATE, State::COMPLETED);
     let dropped = state::row_is(s, Property::STATE, t, Tag::STATE, State::DISCARDED);
     let runs = state::row_is(s, Property::STATE, t, Tag::STATE, State::IN_PROGRESS);
-    let timed = waits::timed(s, t);
-    waits::both(waits::either(done, dropped), waits::both(!runs, !timed))
+    (done || dropped) && !runs && !waits::timed(s, t)
 }
 
 // 5b, iii to v: a task that is not to change now.
 fn idle(starts: Marks, discards: Marks, initialises: Marks, t: usize) -> bool
     ensures { result ≡ idle_f starts discards initialises t }
 {
-    let a = waits::mark(starts, t);
-    let b = waits::mark(discards, t);
-    let c = waits::mark(initialises, t);
-    waits::both(!a, waits::both(!b, !c))
+    !waits::mark(starts, t) && !waits::mark(discards, t) && !waits::mark(initialises, t)
 }
 
 fn settled(s: &[u32], starts: Marks, discards: Marks, initialises: Marks, t: usize) -> bool
     ensures { result ≡ settled_f s.now starts discards initialises t }
 {
-    let a = still(s, t);
-    waits::both(a, idle(starts, discards, initialises, t))
+    still(s, t) && idle(starts, discards, initialises, t)
 }
 
 // 5: the plans of which a component is not settled.
@@ -43,14 +38,9 @@ pub fn unsettled(s: &[u32], f: &[u32], starts: Marks, discards: Marks, initialis
     ensures { Below f.now (λ C. not (settled_f s.now starts discards initialises C)) 32 result }
 {
     let mut m = [false; Tasks::LIMIT];
-    let mut t: usize = 0;
-    while t < Tasks::LIMIT {
+    for t in 0..Tasks::LIMIT {
         let v = settled(s, starts, discards, initialises, t);
-        let x = state::cell(f, Plan::PARENT, t);
-        let p = marks::parent(x);
-        let u = marks::raised(m, p, x, !v);
-        m[p] = u;
-        t += 1;
+        marks::raise(&mut m, state::cell(f, Plan::PARENT, t), !v);
     }
     m
 }
@@ -61,27 +51,15 @@ fn answered(s: &[u32], f: &[u32], k: usize) -> bool
 {
     let free = state::cell(f, Plan::MANDATORY, k) != 1;
     let d = state::cell(f, Plan::SOURCE_ITEM, k);
-    let told = waits::both(
-        state::cell(s, Requested::TAGS, d) == Tag::TRUTH,
-        state::cell(s, Requested::NUMBERS, d) == 0,
-    );
-    waits::either(free, told)
+    free || (state::cell(s, Requested::TAGS, d) == Tag::TRUTH
+        && state::cell(s, Requested::NUMBERS, d) == 0)
 }
 
 // 2, of `count` sources from the one with the number `first` on.
 fn all_answered(s: &[u32], f: &[u32], first: u32, count: u32) -> bool
     ensures { result ≡ all_f (λ i. answered_f s.now f.now (first + i)) count }
 {
-    let from = first as usize;
-    let all = count as usize;
-    let mut i: usize = 0;
-    while i < all {
-        if !answered(s, f, from + i) {
-            return false;
-        }
-        i += 1;
-    }
-    true
+    (0..count as usize).all(|i| answered(s, f, first as usize + i))
 }
 
 // 3: confirmed, if it has to be.
@@ -89,10 +67,7 @@ fn confirmed(s: &[u32], f: &[u32], t: usize) -> bool
     ensures { result ≡ confirmed_case s.now f.now t }
 {
     let free = state::cell(f, Plan::CONFIRMATORY, t) != 1;
-    waits::either(
-        free,
-        state::row_is(s, Property::CONFIRMED, t, Tag::TRUTH, 1),
-    )
+    free || state::row_is(s, Property::CONFIRMED, t, Tag::TRUTH, 1)
 }
 
 // 8.6.4, where `pending` marks the plans of which a component is not settled.
@@ -100,17 +75,13 @@ pub fn complete_one(s: &[u32], f: &[u32], pending: Marks, t: usize) -> bool
     requires { t < 32 }
     ensures { result ≡ complete_f s.now f.now pending t }
 {
-    let runs = state::row_is(s, Property::STATE, t, Tag::STATE, State::IN_PROGRESS);
-    let sources = all_answered(
-        s,
-        f,
-        blocks::cell(f, Plan::FIRST_SOURCE + t),
-        blocks::cell(f, Plan::SOURCES + t),
-    );
-    let no_plan = state::cell(f, Plan::CLASS, t) != Class::PLAN;
-    let over = waits::either(no_plan, !waits::mark(pending, t));
-    waits::both(
-        runs,
-        waits::both(sources, waits::both(confirmed(s, f, t), over)),
-    )
+    state::row_is(s, Property::STATE, t, Tag::STATE, State::IN_PROGRESS)
+        && all_answered(
+            s,
+            f,
+            blocks::cell(f, Plan::FIRST_SOURCE + t),
+            blocks::cell(f, Plan::SOURCES + t),
+        )
+        && confirmed(s, f, t)
+        && (state::cell(f, Plan::CLASS, t) != Class::PLAN || !waits::mark(pending, t))
 }

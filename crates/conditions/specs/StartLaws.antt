@@ -1,18 +1,15 @@
 -- Law: the tests on the cells are the conditions 8.6.6, 8.6.5, 8.6.2 of every table that they show; and one step of 8.6.1.
-use Rattle.std.specs.Prelude.{ℕ, zero, suc, ◌+◌, ◌-◌, ◌<◌, ◌≤◌, ◌≡◌, refl, Bool, true, false, not, ◌&&◌, ◌||◌, ◌↔◌, ◌⊎◌, List, [], ◌∷◌, eqb, leb, get_or}
-use Rattle.std.proofs.Common.{arith, sym, ap, subst, ◌∙◌, inl, inr, eq-eqb, ne_eqb, eqb-true, le-leb, leb-true}
-use Rattle.std.proofs.Math.Option.{Option, none, some}
+use Rattle.std.specs.Prelude.{ℕ, zero, suc, ◌+◌, ◌-◌, ◌<◌, ◌≤◌, ◌≡◌, refl, Bool, true, false, not, ◌&&◌, ◌||◌, ◌⊎◌, List, [], ◌∷◌, eqb}
+use Rattle.std.proofs.Common.{arith, sym, subst, inl, inr, ne_eqb}
 use Rattle.paper_expressions.proofs.Laws.Search.{no_clash}
-use Rattle.paper_expressions.specs.Values.{dormant, in_progress, discarded, completed, TaskState}
-use Rattle.paper_expressions.specs.Expressions.{Expr}
-use Rattle.paper_expressions.specs.View.{At, at_first, at_later}
-use Rattle.paper_rows.specs.Table.{task, Component, ◌№◌, Property, state, antecedent_tasks, precondition, wait_condition, trigger, trigger_active, parent_plan, terminal, start_at, RowValue, state_is, time_is, component_is, components_are, expression_is, truth_row, text_row, Table, Contains}
-use Rattle.paper_engine.specs.Conditions.{IsTrue, StartAt, ScheduleConditions, SomeCompleted, ScheduledStartConditions, StartCase, start_2a, start_2b, start_2c, StartConditions, InitialiseConditions, initialise_1, initialise_2a, initialise_2b}
-use Rattle.state.specs.Cell.{state_code, plain_state, plain_truth, time_there, time_number}
-use Rattle.state.specs.Layout.{Rows, row_is_fn, row_test, state_column, trigger_column, start_column}
-use Rattle.waits.specs.Booleans.{Tests, all_f, any_f, is_and, is_or, is_not, is_if, is_as, is_all, is_any}
-use Rattle.waits.specs.Twins.{marked, waiting, timed_f, ended_f, over_f, completed_f, schedule_f, scheduled_f, parent_at, parent_f, trigger_f, terminal_f, due_f, start_f, initialise_f}
-use Rattle.waits.specs.Worked.{Parent, Waits, HasTrigger, Worked, Allowed, Marks}
+use Rattle.paper_expressions.specs.Values.{dormant, completed}
+use Rattle.paper_expressions.specs.View.{At, at_first}
+use Rattle.paper_rows.specs.Table.{task, Component, ◌№◌, state, antecedent_tasks, precondition, wait_condition, trigger_active, parent_plan, terminal, state_is, component_is, components_are, truth_row, Table, Contains}
+use Rattle.paper_engine.specs.Conditions.{StartAt, ScheduleConditions, SomeCompleted, ScheduledStartConditions, StartCase, start_2a, start_2b, start_2c, StartConditions, InitialiseConditions, initialise_1, initialise_2a, initialise_2b}
+use Rattle.state.specs.Layout.{Rows, row_is_fn}
+use Rattle.waits.specs.Booleans.{Tests, any_f, is_and, is_or, is_not, is_if, is_as, is_any}
+use Rattle.waits.specs.Twins.{marked, waiting, completed_f, scheduled_f, parent_at, trigger_f, due_f, start_f, initialise_f}
+use Rattle.waits.specs.Worked.{Parent, HasTrigger, Worked, Allowed}
 use Rattle.waits.specs.Shows.{test_is, same_list, same_plan, same_task, no_row, in_test, active_test, due_test, mine, small, any_test, schedule_test, parent_test_at}
 
 module _ {s : List ℕ} {t : Table} (rows : Rows s t) where

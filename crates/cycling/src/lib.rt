@@ -13,11 +13,7 @@ pub fn cycles(s: &[u32], t: usize) -> bool
 {
     let count = Property::CYCLE_COUNT as usize;
     let most = Property::NBR_CYCLES_VALUE as usize;
-    if state::cell(s, count, t) != Tag::COUNT {
-        return false;
-    }
-    if state::cell(s, most, t) != Tag::COUNT {
-        return false;
-    }
-    state::cell(s, count + Tasks::LIMIT, t) < state::cell(s, most + Tasks::LIMIT, t)
+    state::cell(s, count, t) == Tag::COUNT
+        && state::cell(s, most, t) == Tag::COUNT
+        && state::cell(s, count + Tasks::LIMIT, t) < state::cell(s, most + Tasks::LIMIT, t)
 }

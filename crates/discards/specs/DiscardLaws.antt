@@ -1,20 +1,20 @@
 -- Law: the tests on the cells are the conditions 8.6.8 and, one step, 8.6.3 of every table that they show.
-use Rattle.std.specs.Prelude.{ℕ, zero, suc, ◌+◌, ◌-◌, ◌<◌, ◌≤◌, ◌≡◌, refl, Bool, true, false, not, ◌&&◌, ◌||◌, ◌↔◌, ◌⊎◌, List, [], ◌∷◌, eqb}
-use Rattle.std.proofs.Common.{arith, sym, ap, subst, ◌∙◌, inl, inr, ne_eqb}
+use Rattle.std.specs.Prelude.{ℕ, zero, suc, ◌+◌, ◌-◌, ◌<◌, ◌≡◌, refl, Bool, true, false, ◌&&◌, ◌||◌, ◌⊎◌, List, [], ◌∷◌, eqb}
+use Rattle.std.proofs.Common.{arith, ap, subst, ◌∙◌, inl, inr, ne_eqb}
 use Rattle.std.proofs.Math.Decide.{dec_lt}
 use Rattle.std.proofs.Math.Option.{Option, none, some}
 use Rattle.paper_expressions.proofs.Laws.Search.{no_clash}
 use Rattle.paper_expressions.specs.Values.{dormant, in_progress, discarded, completed}
 use Rattle.paper_expressions.specs.Expressions.{Expr}
 use Rattle.paper_expressions.specs.View.{At, at_first}
-use Rattle.paper_rows.specs.Table.{task, Component, ◌№◌, state, antecedent_tasks, precondition, wait_condition, parent_plan, terminal, terminate_condition, RowValue, state_is, component_is, components_are, expression_is, truth_row, Table, Contains}
+use Rattle.paper_rows.specs.Table.{task, Component, ◌№◌, state, antecedent_tasks, precondition, wait_condition, parent_plan, terminal, terminate_condition, state_is, component_is, components_are, expression_is, truth_row, Table, Contains}
 use Rattle.paper_engine.specs.Conditions.{IsTrue, StartAt, ScheduleConditions, TerminationConditions, termination_1, termination_2, Discardable, discardable_in_progress, discardable_dormant, discardable_completed, ParentAllows, no_parent_plan, parent_in_progress, Unwanted, unwanted_i, unwanted_ii, DiscardConditions, discard_1i, discard_1ii, discard_2}
 use Rattle.paper_rows.proofs.Laws.Seen.{expression_f, sees_expression, unseen}
 use Rattle.state.specs.Layout.{Rows, row_is_fn}
 use Rattle.waits.specs.Booleans.{Tests, all_f, any_f, is_and, is_or, is_not, is_if, is_as, is_all}
-use Rattle.waits.specs.Twins.{marked, waiting, timed_f, over_f, discarded_f, schedule_f, parent_at, parent_f}
-use Rattle.waits.specs.Worked.{Parent, Waits, Worked, Allowed}
-use Rattle.waits.specs.Shows.{test_is, same_list, same_plan, same_task, no_row, Timed, in_test, timed_test, mine, small, any_test, schedule_test, parent_test_at, Runs}
+use Rattle.waits.specs.Twins.{marked, waiting, discarded_f, parent_at, parent_f}
+use Rattle.waits.specs.Worked.{Parent, Worked, Allowed}
+use Rattle.waits.specs.Shows.{test_is, same_list, same_plan, same_task, no_row, in_test, timed_test, mine, any_test, schedule_test, parent_test_at}
 use Rattle.marks.specs.Raise.{Below, below_test}
 use Rattle.discards.specs.Twins.{ends_f, discardable_f, unwanted_case, own_f, under_f, discard_f}
 

@@ -12,16 +12,6 @@ use state::Plan;
 // The property of a value.
 const VALUE: usize = Column::VALUE as usize;
 
-// At most as many rows as the Changes table has.
-fn bounded(m: usize) -> usize
-    ensures { (result ≤ 1024) × (m ≤ 1024 → result ≡ m) }
-{
-    if m <= Changes::ROWS {
-        return m;
-    }
-    Changes::ROWS
-}
-
 // Takes in the value of the i-th row, if it is one of a value: its number is that of the assignment.
 fn take(
     x: &[u32],
@@ -53,7 +43,7 @@ fn take(
     assigning::gather(b, v, d, news, texts);
 }
 
-// The values of the first `m` rows.
+// The values of the first `m` rows, at most as many as the Changes table has.
 pub fn gather(
     x: &[u32],
     b: &[u8],
@@ -66,10 +56,7 @@ pub fn gather(
 )
     ensures { Gathered x.now b.now f.now s.now o.now m news.old news.new texts.old texts.new }
 {
-    let n = bounded(m);
-    let mut i: usize = 0;
-    while i < n {
+    for i in 0..m.min(Changes::ROWS) {
         take(x, b, f, s, o, i, news, texts);
-        i += 1;
     }
 }

@@ -1,15 +1,14 @@
 -- The one form of a value of the code, as the code writes it, holds what the value means. By the elements passed.
-use Rattle.std.specs.Prelude.{ℕ, zero, suc, ◌+◌, ◌*◌, ◌<◌, ◌≤◌, ◌≡◌, refl, Bool, true, false, ◌⊎◌, List, [], ◌∷◌, map, ℤ, pos, negsuc, nat_abs, ◌+ℤ◌, get_or, set, length, take, drop, leb}
-use Rattle.std.proofs.Common.{arith, not-suc-le-zero, sym, ap, ap₂, subst, ◌∙◌, inl, inr, length-set, get_or-set_same, get_or-set_other, get_or-take, le-ltb, le-leb, leb-true, below_more}
-use Rattle.std.proofs.Math.Decide.{dec_lt, ℕ_discrete}
-use Rattle.std.proofs.Math.Option.{Option, none, some}
+use Rattle.std.specs.Prelude.{ℕ, zero, suc, ◌+◌, ◌*◌, ◌<◌, ◌≤◌, ◌≡◌, refl, Bool, true, false, List, [], ℤ, pos, negsuc, nat_abs, ◌+ℤ◌, get_or, set, length, take, leb}
+use Rattle.std.proofs.Common.{arith, not-suc-le-zero, sym, ap, subst, ◌∙◌, inl, length-set, get_or-set_same, get_or-set_other, get_or-take, le-ltb, le-leb, leb-true, below_more}
+use Rattle.std.proofs.Math.Option.{some}
 use Rattle.std.proofs.lemmas.List.{length-map}
 use Rattle.std.proofs.Math.ListN.{get_or-map, get_or-eq_default}
 use Rattle.paper_expressions.proofs.Laws.Tests.{contra}
 use Rattle.paper_expressions.specs.Limits.{real_limit}
 use Rattle.paper_expressions.specs.Values as paper
 use Rattle.paper_expressions.specs.Values.{one, sequence}
-use Rattle.paper_expressions.proofs.Laws.WithinLimits.{Small, unknown_small, truth_small, integer_small, real_small, text_small, Limited}
+use Rattle.paper_expressions.proofs.Laws.WithinLimits.{Small, integer_small, real_small, text_small, Limited}
 use Rattle.parts.specs.Texts.{handle, moved}
 use Rattle.state.specs.Cell.{bit}
 use Rattle.state.specs.Items as Items
@@ -21,7 +20,7 @@ use Rattle.values.specs.declared.list.Cell.{Cell}
 use Rattle.values.specs.declared.list.List as Code
 use Rattle.values.specs.declared.value.Value.{Value}
 use Rattle.values.specs.Meaning.{bytes_of, meaning, held, meaning_l, valued, meaning_v, cell, at, size_of}
-use Rattle.blocks.specs.Blocks.{Copied, Outside, cells_long}
+use Rattle.blocks.specs.Blocks.{Copied, cells_long}
 
 -- ---- one element, as the code has it
 

@@ -4,7 +4,6 @@
 ghost use Rattle.std.specs.Prelude.{◌≡◌, ◌≤◌, ◌<◌, nat_abs};
 ghost use Rattle.paper_expressions.specs.Limits.{real_limit};
 ghost use Rattle.parts.specs.Texts.{handle as handle_of, moved as movedOf};
-ghost use Rattle.state.specs.Cell.{bit as bit_of};
 ghost use Rattle.items.specs.Encode.{tag_c, SpeltAt, NumberOf, ElementOf, ShapeOf, PutElement, Encodes};
 
 use numbers::{Num, Wide};
@@ -32,11 +31,10 @@ fn moved(n: Num) -> u32
 {
     let w = numbers::wide_of(n);
     if numbers::real_fits(w) {
-        let up = numbers::sum(w, Wide { z: Num::REAL_LIMIT });
-        let z = up.z;
-        return z as u32;
+        numbers::sum(w, Wide { z: Num::REAL_LIMIT }).z as u32
+    } else {
+        0
     }
-    0
 }
 
 // No text stands from here on.
@@ -46,12 +44,11 @@ const PLACES: usize = 1_000_000;
 fn handle(place: usize, n: usize) -> u32
     ensures { place < 1000000 → n < 64 → result ≡ handle_of place n }
 {
-    if place < PLACES {
-        if n < HANDLE {
-            return (place * HANDLE + n) as u32;
-        }
+    if place < PLACES && n < HANDLE {
+        (place * HANDLE + n) as u32
+    } else {
+        0
     }
-    0
 }
 
 fn tag(x: Scalar) -> u32
@@ -66,24 +63,14 @@ fn tag(x: Scalar) -> u32
     }
 }
 
-fn bit(b: bool) -> u32
-    ensures { result ≡ bit_of b }
-{
-    if b {
-        return 1;
-    }
-    0
-}
-
 // The number of an element, whose text of `n` bytes has this place.
 fn number(x: Scalar, place: usize, n: usize) -> u32
     ensures { NumberOf x place n result }
 {
     match x {
         Scalar::Unknown => 0,
-        Scalar::Truth(b) => bit(b),
-        Scalar::Int(z) => moved(z),
-        Scalar::Real(z) => moved(z),
+        Scalar::Truth(b) => u32::from(b),
+        Scalar::Int(z) | Scalar::Real(z) => moved(z),
         Scalar::Text(_) => handle(place, n),
     }
 }
@@ -93,11 +80,8 @@ fn spelt(x: Scalar) -> Handle
     ensures { SpeltAt x result }
 {
     match x {
-        Scalar::Unknown => Handle { at: 0, len: 0 },
-        Scalar::Truth(_) => Handle { at: 0, len: 0 },
-        Scalar::Int(_) => Handle { at: 0, len: 0 },
-        Scalar::Real(_) => Handle { at: 0, len: 0 },
         Scalar::Text(h) => h,
+        _ => Handle { at: 0, len: 0 },
     }
 }
 
@@ -105,17 +89,13 @@ fn spelt(x: Scalar) -> Handle
 fn element(v: Value, i: usize) -> Scalar
     ensures { ElementOf v i result }
 {
-    if v.many {
-        let l = v.list;
-        if i < values::size(l) {
-            return values::get(l, i);
-        }
-        return Scalar::Unknown;
+    if v.many && i < values::size(v.list) {
+        values::get(v.list, i)
+    } else if !v.many && i == 0 {
+        v.one
+    } else {
+        Scalar::Unknown
     }
-    if i == 0 {
-        return v.one;
-    }
-    Scalar::Unknown
 }
 
 // 0 for one value, or one more than the length of a list.
@@ -123,10 +103,10 @@ fn shape(v: Value) -> u32
     ensures { ShapeOf v result }
 {
     if v.many {
-        let n = values::size(v.list);
-        return n as u32 + 1;
+        values::size(v.list) as u32 + 1
+    } else {
+        0
     }
-    0
 }
 
 // Writes the i-th element, whose text has its place among the text bytes.
@@ -158,9 +138,7 @@ pub fn encode(b: &[u8], v: Value, place: usize, cells: &mut [u32], out: &mut [u8
 {
     blocks::put_cell(cells, 0, shape(v));
     blocks::put_cell(cells, Form::NUMBERS, 1);
-    let mut i: usize = 0;
-    while i < List::LIST_LIMIT {
+    for i in 0..List::LIST_LIMIT {
         put_element(b, element(v, i), place, cells, out, i);
-        i += 1;
     }
 }

@@ -1,9 +1,8 @@
 -- Marks that children raise: after k of them, a task is marked if one of them holds and is its child. By the children passed.
-use Rattle.std.specs.Prelude.{ℕ, ◌+◌, ◌-◌, ◌<◌, ◌≤◌, ◌≡◌, refl, Bool, true, false, not, ◌&&◌, ◌||◌, ◌↔◌, ◌⊎◌, List, eqb, get_or, set, length}
-use Rattle.std.proofs.Common.{arith, sym, ap, ap₂, subst, ◌∙◌, inl, inr, length-set, get_or-set_same, get_or-set_other, eq-eqb, ne_eqb, eqb-true}
+use Rattle.std.specs.Prelude.{ℕ, ◌+◌, ◌-◌, ◌<◌, ◌≡◌, refl, Bool, true, false, ◌&&◌, ◌||◌, List, eqb, set, length}
+use Rattle.std.proofs.Common.{arith, sym, ap, ap₂, subst, ◌∙◌, length-set, get_or-set_same, get_or-set_other, eq-eqb, ne_eqb, eqb-true}
 use Rattle.std.proofs.Math.Decide.{ℕ_discrete}
-use Rattle.std.proofs.lemmas.List.{get_or-replicate}
-use Rattle.waits.specs.Booleans.{Tests, any_f, any_more, any_none, is_and, is_as, is_any}
+use Rattle.waits.specs.Booleans.{Tests, any_f, any_more, any_none, is_and, is_any}
 use Rattle.waits.specs.Twins.{marked, parent_at}
 
 pub record Raised (m : List Bool) (x : ℕ) (v : Bool) (r : List Bool) : Type 0 where

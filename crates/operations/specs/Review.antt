@@ -1,5 +1,5 @@
 -- 8.5.1: the rows that the review of a task adds, values by the numbers of their assignments. By the clause that fits.
-use Rattle.std.specs.Prelude.{ℕ, ◌<◌, ◌≡◌, Bool, true, false, ◌↔◌, List}
+use Rattle.std.specs.Prelude.{ℕ, ◌≡◌, Bool, true, false, List}
 use Rattle.std.proofs.Common.{sym, ◌∙◌}
 use Rattle.paper_expressions.proofs.Laws.Tests.{contra}
 use Rattle.paper_rows.specs.Table.{Component, Property, RowValue, Table}

@@ -1,15 +1,15 @@
 -- 8.5.2, 8.5.4, 8.5.5: the rows that Initialise, Discard and Complete add, as the code appends them. By the clauses, one after the other.
 -- A row of a value holds the number of its assignment.
-use Rattle.std.specs.Prelude.{ℕ, ◌+◌, ◌*◌, ◌<◌, ◌≤◌, ◌≡◌, refl, false, ◌↔◌, List, pos, get_or}
-use Rattle.std.proofs.Common.{arith, sym, ap, subst, ◌∙◌}
+use Rattle.std.specs.Prelude.{ℕ, ◌+◌, ◌<◌, ◌≡◌, refl, false, List, pos, get_or}
+use Rattle.std.proofs.Common.{arith, ap, subst}
 use Rattle.std.proofs.Math.Decide.{dec_lt}
 use Rattle.paper_expressions.specs.Values.{dormant, discarded, completed}
-use Rattle.paper_rows.specs.Table.{task, data_item, Component, ◌№◌, an_action, Property, class, state, trigger_active, cycle_count, nbr_cycles_value, start_at, discarded_time, completed_time, actual_procedure, value, RowValue, state_is, class_is, time_is, unknown_row, truth_row, integer_row, Table, Contains}
+use Rattle.paper_rows.specs.Table.{task, data_item, Component, ◌№◌, an_action, Property, class, state, trigger_active, cycle_count, nbr_cycles_value, start_at, discarded_time, completed_time, value, RowValue, state_is, class_is, time_is, unknown_row, truth_row, integer_row, Table, Contains}
 use Rattle.paper_engine.specs.Cycle as Cycle
 use Rattle.paper_engine.specs.Operations.{Initialise, initialise_1, initialise_2, initialise_3, initialise_4, initialise_5, initialise_9a, Discard, discard_1, discard_3}
 use Rattle.state.specs.Cell.{row_number, plain_unknown, plain_truth, plain_count, plain_time, plain_state}
 use Rattle.waits.specs.Booleans.{Tests}
-use Rattle.changes.specs.Row.{component_code, state_at, start_at_at, trigger-at, count_at, cycles_at, discarded_at, completed_at, value-at, Shared, Appends, One, this, Either, first, second, Nothing, appends_none, appends_as, appends_more}
+use Rattle.changes.specs.Row.{component_code, state_at, start_at_at, trigger-at, count_at, cycles_at, discarded_at, completed_at, value-at, Shared, Appends, One, this, Either, first, second, appends_none, appends_as, appends_more}
 use Rattle.changes.specs.Push.{Pushes}
 use Rattle.starting.specs.StartRows.{action_f, ProcedureRow, Unset, unset}
 

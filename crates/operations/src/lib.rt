@@ -59,12 +59,9 @@ fn assigns(f: &[u32], first: u32, count: u32, out: &mut [u32], n: usize) -> usiz
     ensures few { result ≤ n + count }
 {
     let from = first as usize;
-    let all = count as usize;
     let mut m = n;
-    let mut i: usize = 0;
-    while i < all {
+    for i in 0..count as usize {
         m = assign(f, from + i, out, m);
-        i += 1;
     }
     m
 }
@@ -107,16 +104,14 @@ pub fn review_one(
     ensures few { result ≤ n + (6 + (get_or f.now (232 + t) 0 + get_or f.now (648 + t) 0)) }
 {
     if initialises {
-        return initialise(f, t, out, n);
+        initialise(f, t, out, n)
+    } else if starts {
+        starting::start(s, f, clock, t, out, n)
+    } else if discards {
+        discard(t, clock, out, n)
+    } else if completes {
+        complete(f, t, clock, out, n)
+    } else {
+        n
     }
-    if starts {
-        return starting::start(s, f, clock, t, out, n);
-    }
-    if discards {
-        return discard(t, clock, out, n);
-    }
-    if completes {
-        return complete(f, t, clock, out, n);
-    }
-    n
 }

@@ -1,5 +1,5 @@
 -- Marks of 8.6.8, 8.6.3 and 8.6.4 for all tasks: what each pass promises of every table that the cells show, and the laws of its loop. By the tasks passed.
-use Rattle.std.specs.Prelude.{ℕ, suc, ◌+◌, ◌<◌, ◌≤◌, ◌≡◌, refl, Bool, true, false, not, ◌||◌, List, get_or, set, length}
+use Rattle.std.specs.Prelude.{ℕ, ◌+◌, ◌<◌, ◌≤◌, ◌≡◌, Bool, false, not, ◌||◌, List, set, length}
 use Rattle.std.proofs.Common.{arith, sym, ap, subst, ◌∙◌, get_or-set_same, get_or-set_other, below_more}
 use Rattle.std.proofs.Math.Decide.{ℕ_discrete}
 use Rattle.paper_rows.specs.Table.{precondition, wait_condition, Table}

@@ -13,10 +13,7 @@ fn tasks(f: &[u32]) -> u32
     ensures { (result ≤ 32) × (get_or f.now 0 0 ≤ 32 → result ≡ get_or f.now 0 0) }
 {
     let n = blocks::cell(f, Plan::TASKS);
-    if n <= Row::TASKS {
-        return n;
-    }
-    0
+    if n <= Row::TASKS { n } else { 0 }
 }
 
 // The rows of every task, whose conditions are marked.
@@ -33,10 +30,8 @@ fn each(
     ensures each_rows { EachRows s.now f.now clock initialises starts discards completes out.old out.new result }
     ensures few { Few f.now result }
 {
-    let n = tasks(f);
     let mut m: usize = 0;
-    let mut t: u32 = 0;
-    while t < n {
+    for t in 0..tasks(f) {
         let i = t as usize;
         m = operations::review_one(
             s,
@@ -50,7 +45,6 @@ fn each(
             out,
             m,
         );
-        t += 1;
     }
     m
 }

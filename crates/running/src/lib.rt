@@ -28,7 +28,7 @@ fn ask(x: &[u32], b: &[u8], f: &[u32], w: WaitTable, s: &[u32]) -> Asked
     let mut cells = [0u32; Asked::NUMBERS];
     let m = asking::ask(x, b, f, w, s, &mut cells);
     let n = changes::bounded(&cells, m);
-    Asked { n: n, cells: cells }
+    Asked { n, cells }
 }
 
 fn ended(ending: u32, cycles: u32, lent: usize, asked: Asked) -> Turn
@@ -36,10 +36,10 @@ fn ended(ending: u32, cycles: u32, lent: usize, asked: Asked) -> Turn
 {
     Turn {
         going: false,
-        ending: ending,
-        cycles: cycles,
-        lent: lent,
-        asked: asked,
+        ending,
+        cycles,
+        lent,
+        asked,
     }
 }
 
@@ -48,17 +48,17 @@ fn decide(asked: Asked, cycles: u32, lent: usize, bound: u64) -> Turn
     ensures { Decided bound cycles lent asked result }
 {
     if asked.n == 0 {
-        return ended(Ending::QUIET, cycles, lent, asked);
-    }
-    if bound <= cycles as u64 {
-        return ended(Ending::BOUNDED, cycles, lent, asked);
-    }
-    Turn {
-        going: true,
-        ending: Ending::NONE,
-        cycles: cycles,
-        lent: lent,
-        asked: asked,
+        ended(Ending::QUIET, cycles, lent, asked)
+    } else if bound <= u64::from(cycles) {
+        ended(Ending::BOUNDED, cycles, lent, asked)
+    } else {
+        Turn {
+            going: true,
+            ending: Ending::NONE,
+            cycles,
+            lent,
+            asked,
+        }
     }
 }
 
@@ -74,8 +74,7 @@ pub fn first(
 ) -> Turn
     ensures { Turned bound lent x.now b.now f.now w s.now b.now s.now result }
 {
-    let a = ask(x, b, f, w, s);
-    decide(a, 0, lent, bound)
+    decide(ask(x, b, f, w, s), 0, lent, bound)
 }
 
 // The next turn: the rows are enacted and counted; an exception stops, else it is decided anew.
@@ -92,12 +91,11 @@ pub fn next(
     requires { turn.cycles < 256 }
     ensures { Nexts bound turn.lent x.now f.now w b.old s.old asked.cells asked.n turn.cycles b.new s.new result × (result.cycles ≡ turn.cycles + 1) }
 {
-    let cells = asked.cells;
-    cycles::enact(x, b, f, s, &cells, asked.n);
+    cycles::enact(x, b, f, s, &asked.cells, asked.n);
     let k = turn.cycles + 1;
     if blocks::cell(s, Header::FLAG) != 0 {
-        return ended(Ending::EXCEPTION, k, turn.lent, asked);
+        ended(Ending::EXCEPTION, k, turn.lent, asked)
+    } else {
+        decide(ask(x, b, f, w, s), k, turn.lent, bound)
     }
-    let a = ask(x, b, f, w, s);
-    decide(a, k, turn.lent, bound)
 }

@@ -1,10 +1,9 @@
 -- Law: of a kept table whose counts are counted, what Start's rows ask holds.
-use Rattle.std.specs.Prelude.{ℕ, ◌<◌, ◌≡◌, ◌⊎◌, List, ℤ, pos}
-use Rattle.std.proofs.Common.{arith, ◌∙◌, sym, inl, inr}
-use Rattle.std.proofs.Math.Option.{some}
+use Rattle.std.specs.Prelude.{ℕ, ◌<◌, ◌≡◌, ◌⊎◌, List, pos}
+use Rattle.std.proofs.Common.{arith, inl, inr}
 use Rattle.paper_guideline.specs.Structure.{TopLevel}
 use Rattle.paper_expressions.specs.Expressions.{Expr}
-use Rattle.paper_rows.specs.Table.{task, ◌№◌, cycle_count, procedure, RowValue, integer_row, expression_is, Table, Contains}
+use Rattle.paper_rows.specs.Table.{task, ◌№◌, procedure, integer_row, expression_is, Table, Contains}
 use Rattle.paper_rows.specs.Load.{Adds}
 use Rattle.paper_engine.proofs.Laws.Kept.{Kept}
 use Rattle.paper_engine.proofs.Laws.CountLaws.{Counted}

@@ -1,20 +1,19 @@
 -- 8.5.3: the rows that Start(T) adds, as the code appends them. By the clauses, one after the other.
-use Rattle.std.specs.Prelude.{ℕ, ◌+◌, ◌*◌, ◌<◌, ◌≤◌, ◌≡◌, refl, Bool, true, false, ◌&&◌, ◌↔◌, ◌⊎◌, List, eqb, ℤ, pos, ◌+ℤ◌, get_or, length}
-use Rattle.std.proofs.Common.{arith, sym, ap, subst, ◌∙◌, true≢false, inl, inr, eq-eqb, eqb-true}
+use Rattle.std.specs.Prelude.{ℕ, ◌+◌, ◌<◌, ◌≡◌, refl, Bool, true, false, ◌&&◌, List, eqb, ℤ, pos, ◌+ℤ◌, get_or}
+use Rattle.std.proofs.Common.{arith, sym, ap, subst, ◌∙◌, true≢false, eq-eqb, eqb-true}
 use Rattle.std.proofs.Math.Decide.{dec_lt}
 use Rattle.std.proofs.Math.Option.{Option, some}
-use Rattle.paper_expressions.proofs.Laws.Search.{no_clash}
 use Rattle.paper_expressions.specs.Values.{in_progress}
 use Rattle.paper_expressions.specs.Expressions.{Expr}
 use Rattle.paper_expressions.specs.View.{At}
 use Rattle.paper_rows.specs.Table.{task, data_item, source, Component, ◌№◌, an_enquiry, an_action, Property, class, state, confirmed, cycle_count, start_at, in_progress_time, procedure, actual_procedure, sources, data_item_of, requested, RowValue, state_is, class_is, time_is, expression_is, component_is, components_are, unknown_row, truth_row, integer_row, Table, Contains}
 use Rattle.paper_engine.specs.Cycle as Cycle
 use Rattle.paper_engine.specs.Operations.{InitialiseSource, initialise_source, Start, start_1, start_2, start_3, start_4, start_8, start_9, start_12}
-use Rattle.state.specs.Cell.{Cell, Plain, plain_unknown, plain_truth, plain_count, plain_time, plain_state, one_row, row_is, tag}
+use Rattle.state.specs.Cell.{plain_unknown, plain_truth, plain_count, plain_time, plain_state, one_row, row_is, tag}
 use Rattle.state.specs.Layout.{Rows, count_column}
-use Rattle.waits.specs.Booleans.{Tests, is_not}
+use Rattle.waits.specs.Booleans.{Tests}
 use Rattle.waits.specs.Twins.{first_at, count_at_fn, item_at}
-use Rattle.changes.specs.Row.{component_code, Column, state_at, start_at_at, in_progress_at, confirmed_at, count_at, procedure_at, requested_at, Shared, Appends, One, this, Either, first, second, Nothing, appends_none, appends_as, appends_more}
+use Rattle.changes.specs.Row.{component_code, state_at, start_at_at, in_progress_at, confirmed_at, count_at, procedure_at, requested_at, Shared, Appends, One, this, Either, first, second, appends_none, appends_as, appends_more}
 use Rattle.changes.specs.Push.{Asks, Pushes}
 
 -- ---- 1, 2, 3, 8

@@ -1,6 +1,7 @@
 -- A part of a table of cells, and the columns that the evaluator reads as parts of the plan and of the state.
 use Rattle.std.specs.Prelude.{ℕ, ◌+◌, ◌-◌, ◌<◌, ◌≤◌, ◌≡◌, refl, List, [], get_or, length, take, drop}
 use Rattle.std.proofs.Common.{arith, sym, ap, ◌∙◌, length-take, length-drop, drop_of_length-le, get_or-take, get_or-drop, take_all}
+use Rattle.std.proofs.Math.Decide.{dec_lt}
 use Rattle.std.proofs.Math.Seq.{take-nil}
 use Rattle.evaluator.specs.Columns.{Columns, columns}
 
@@ -29,6 +30,28 @@ unfolding part_of
 part_cut s a n m e l k =
     let z : length (drop a s) ≡ m - a = length-drop a s ∙ ap (λ (y : ℕ). y - a) (sym e) in
     take_all (m - a) (drop a s) (omega arith) ∙ sym (take_all n (drop a s) (omega arith))
+
+-- from a or the end on, n numbers or what there is of them
+pub part_there : (s : List ℕ) (a n f k : ℕ) → (a ≤ length s → f ≡ a) → (length s ≤ a → f ≡ length s) → (n ≤ length s - f → k ≡ n) → (length s - f ≤ n → k ≡ length s - f) → take (f + k - f) (drop f s) ≡ part_of s a n
+unfolding part_of
+part_there s a n f k in_it past all cut = go (dec_lt (length s) a)
+  where
+    go : Dec (length s < a) → take (f + k - f) (drop f s) ≡ take n (drop a s)
+    go (yes l) =
+        let e : f ≡ length s = past (omega arith) in
+        let z : f + k - f ≡ 0 = (let x = cut (omega arith) in omega arith) in
+        rw z (part_past s a n (omega arith))
+    go (no l) =
+        let e : f ≡ a = in_it (omega arith) in
+        near (dec_lt (length s - a) n) e
+      where
+        near : Dec (length s - a < n) → f ≡ a → take (f + k - f) (drop f s) ≡ take n (drop a s)
+        near (yes j) e =
+            let z : f + k - f ≡ length s - a = (let x = cut (omega arith) in omega arith) in
+            rw (z, e) (part_cut s a n (length s) refl (omega arith) j)
+        near (no j) e =
+            let z : f + k - f ≡ n = (let x = all (omega arith) in omega arith) in
+            rw (z, e) refl
 
 -- the names of the data items and of the tasks, the items' values, the tasks' states
 abbrev pub shown_by : List ℕ → List ℕ → Columns

@@ -18,7 +18,7 @@ use Rattle.paper_guideline.specs.Refusals.{declared_items}
 use Rattle.paper_guideline.specs.Limits.{depth_limit}
 use Rattle.paper_rows.specs.Table.{task, ◌№◌, Property, RowValue, expression_is, Contains}
 use Rattle.paper_rows.specs.Table as Engine
-use Rattle.paper_engine.specs.Conditions.{Evaluate, IsTrue}
+use Rattle.paper_engine.specs.Conditions.{IsTrue}
 use Rattle.paper_rows.proofs.Laws.Lawful.{Lawful}
 use Rattle.paper_engine.proofs.Laws.Kept.{Kept, view_f, view_of, view_sound, same_items, one_view}
 use Rattle.parts.specs.Part.{Table, Ends, Within}

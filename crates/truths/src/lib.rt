@@ -10,6 +10,7 @@ ghost use Rattle.truths.specs.Truth.{TruthOf, HeldOf, AllHeld, AllAllowed, AllEn
 
 use limits::{Expression, Marks, Tasks};
 use state::{Plan, Property, Values};
+use std::array;
 use values::Value;
 
 // Where the states of the tasks stand: the numbers of their property.
@@ -19,15 +20,9 @@ const STATES: usize = Property::STATE as usize + Tasks::LIMIT;
 pub fn part(s: &[u32], a: usize, n: usize) -> &[u32]
     ensures { result.now ≡ part_of s.now a n }
 {
-    let m = s.len();
-    if m < a {
-        return &s[m..m];
-    }
-    if m - a < n {
-        return &s[a..m];
-    }
-    let e = a + n;
-    &s[a..e]
+    let from = a.min(s.len());
+    let count = n.min(s.len() - from);
+    &s[from..from + count]
 }
 
 // The value of the expression whose parts end before `end`, for the task: `x` are the parts, `f` is what load worked out, `s` the state.
@@ -57,8 +52,7 @@ pub fn value_at(x: &[u32], b: &[u8], f: &[u32], s: &[u32], task: usize, end: usi
 fn truth_of(x: &[u32], b: &[u8], f: &[u32], s: &[u32], task: usize, end: usize) -> bool
     ensures { TruthOf (table x.now b.now) (shown_by f.now s.now) task end result }
 {
-    let v = value_at(x, b, f, s, task, end);
-    operators::is_true(values::scalar_of(v))
+    operators::is_true(values::scalar_of(value_at(x, b, f, s, task, end)))
 }
 
 // Whether it is true; `none` where there is none.
@@ -66,24 +60,17 @@ fn held(x: &[u32], b: &[u8], f: &[u32], s: &[u32], task: usize, end: usize, none
     ensures { HeldOf none (table x.now b.now) (shown_by f.now s.now) task end result }
 {
     if end == 0 {
-        return none;
+        none
+    } else {
+        truth_of(x, b, f, s, task, end)
     }
-    truth_of(x, b, f, s, task, end)
 }
 
 // The same of every task, where `ends` is the column of `f` that says where the expressions end.
 fn all_held(x: &[u32], b: &[u8], f: &[u32], s: &[u32], ends: usize, none: bool) -> Marks
     ensures { AllHeld none (table x.now b.now) (shown_by f.now s.now) f.now ends result }
 {
-    let mut m = [false; Tasks::LIMIT];
-    let mut t: usize = 0;
-    while t < Tasks::LIMIT {
-        let end = state::cell(f, ends, t);
-        let v = held(x, b, f, s, t, end, none);
-        m[t] = v;
-        t += 1;
-    }
-    m
+    array::from_fn(|t| held(x, b, f, s, t, state::cell(f, ends, t), none))
 }
 
 // Of every task: whether the expression is true, if there is one.

@@ -1,6 +1,6 @@
 -- What the walk over the tasks that are waited for has found out. By the tasks passed.
-use Rattle.std.specs.Prelude.{ℕ, suc, ◌+◌, ◌≡◌, refl, Bool, true, false, not, ◌&&◌, ◌||◌, List}
-use Rattle.std.proofs.Common.{sym, subst, ◌∙◌, add-one}
+use Rattle.std.specs.Prelude.{ℕ, ◌+◌, ◌≡◌, Bool, true, false, not, ◌&&◌, ◌||◌, List}
+use Rattle.std.proofs.Common.{sym, subst, ◌∙◌}
 use Rattle.state.specs.Layout.{row_is_fn}
 use Rattle.waits.specs.declared.Before.{Before}
 use Rattle.waits.specs.Booleans.{all_f, any_f, all_more, any_more, all_none, any_none}

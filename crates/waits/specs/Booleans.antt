@@ -1,5 +1,5 @@
 -- Tests over the numbers below n, and what they say.
-use Rattle.std.specs.Prelude.{ℕ, zero, suc, ◌+◌, ◌<◌, ◌≡◌, refl, Bool, true, false, not, ◌&&◌, ◌||◌, ◌↔◌, ◌⊎◌}
+use Rattle.std.specs.Prelude.{ℕ, zero, suc, ◌+◌, ◌<◌, ◌≡◌, refl, Bool, true, false, ◌&&◌, ◌||◌, ◌⊎◌}
 use Rattle.std.proofs.Common.{arith, add-one, not-suc-le-zero, inl, inr, below_more}
 use Rattle.paper_expressions.proofs.Laws.Search.{no_clash}
 pub use Rattle.paper_rows.proofs.Laws.Booleans.{Tests, is_as, is_and, is_or, is_not, is_if}

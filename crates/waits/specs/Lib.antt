@@ -3,3 +3,4 @@ pub mod Twins
 pub mod Antecedents
 pub mod Worked
 pub mod Shows
+pub mod Arrays

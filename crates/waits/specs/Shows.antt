@@ -1,15 +1,15 @@
 -- Law: tests on the cells, and what they say of every table that they show: the state of a task, its start time, its parent, 8.6.6.
-use Rattle.std.specs.Prelude.{ℕ, zero, suc, ◌+◌, ◌-◌, ◌<◌, ◌≤◌, ◌≡◌, refl, Bool, true, false, not, ◌&&◌, ◌||◌, ◌↔◌, ◌⊎◌, List, [], ◌∷◌, eqb, leb, get_or}
+use Rattle.std.specs.Prelude.{ℕ, zero, suc, ◌+◌, ◌-◌, ◌<◌, ◌≤◌, ◌≡◌, refl, Bool, true, ◌||◌, ◌⊎◌, List, eqb, get_or}
 use Rattle.std.proofs.Common.{arith, sym, ap, subst, ◌∙◌, inl, inr, eq-eqb, eqb-true, le-leb, leb-true}
 use Rattle.std.proofs.Math.Option.{Option, none, some}
 use Rattle.paper_expressions.proofs.Laws.Search.{no_clash}
 use Rattle.paper_expressions.specs.Values.{in_progress, discarded, completed, TaskState}
 use Rattle.paper_expressions.specs.View.{At}
-use Rattle.paper_rows.specs.Table.{task, Component, ◌№◌, state, antecedent_tasks, wait_condition, trigger_active, start_at, RowValue, state_is, time_is, component_is, components_are, truth_row, Table, Contains}
+use Rattle.paper_rows.specs.Table.{task, Component, ◌№◌, state, antecedent_tasks, wait_condition, trigger_active, RowValue, state_is, time_is, component_is, components_are, truth_row, Table, Contains}
 use Rattle.paper_engine.specs.Conditions.{StartAt, ScheduleConditions}
 use Rattle.state.specs.Cell.{state_code, plain_state, plain_truth, time_there, time_number}
 use Rattle.state.specs.Layout.{Rows, row_is_fn, row_test, state_column, trigger_column, start_column}
-use Rattle.waits.specs.Booleans.{Tests, all_f, any_f, is_and, is_or, is_not, is_if, is_as, is_all, is_any}
+use Rattle.waits.specs.Booleans.{Tests, any_f, is_and, is_or, is_not, is_if, is_as, is_all, is_any}
 use Rattle.waits.specs.Twins.{marked, waiting, timed_f, ended_f, over_f, schedule_f, due_f}
 use Rattle.waits.specs.Worked.{Parent, Waits, Worked, Allowed}
 

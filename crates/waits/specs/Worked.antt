@@ -1,9 +1,9 @@
 -- What load worked out for the engine, as a table of numbers and a table of who waits for whom: of which rows of the Properties table it tells. Definitions only.
-use Rattle.std.specs.Prelude.{ℕ, ◌+◌, ◌<◌, ◌≤◌, ◌≡◌, Bool, true, ◌↔◌, List, get_or}
+use Rattle.std.specs.Prelude.{ℕ, ◌+◌, ◌<◌, ◌≤◌, ◌≡◌, Bool, true, ◌↔◌, List}
 use Rattle.std.proofs.Math.Option.{Option, none, some}
 use Rattle.paper_expressions.specs.Expressions.{Expr}
 use Rattle.paper_expressions.specs.View.{At}
-use Rattle.paper_rows.specs.Table.{task, data_item, source, Component, ◌№◌, Class, a_plan, an_action, an_enquiry, Property, class, antecedent_tasks, trigger, parent_plan, confirmatory, optional, terminal, sources, data_item_of, mandatory, RowValue, class_is, component_is, components_are, expression_is, truth_row, text_row, Table, Contains, TaskId}
+use Rattle.paper_rows.specs.Table.{task, data_item, source, Component, ◌№◌, a_plan, an_action, an_enquiry, Property, class, antecedent_tasks, trigger, parent_plan, confirmatory, optional, terminal, sources, data_item_of, mandatory, RowValue, class_is, component_is, components_are, expression_is, truth_row, text_row, Table, Contains, TaskId}
 use Rattle.paper_engine.specs.Conditions.{IsTrue}
 use Rattle.waits.specs.Twins.{marked, waiting, parent_at, trigger_f, terminal_f, order_at, confirmatory_f, class_f, first_at, count_at_fn, item_at, mandatory_f}
 use Rattle.waits.specs.Booleans.{Tests}

@@ -11,19 +11,13 @@ use state::{Property, StartAt, State, Tag};
 pub fn both(a: bool, b: bool) -> bool
     ensures { result ≡ (a && b) }
 {
-    if a {
-        return b;
-    }
-    false
+    a && b
 }
 
 pub fn either(a: bool, b: bool) -> bool
     ensures { result ≡ (a || b) }
 {
-    if a {
-        return true;
-    }
-    b
+    a || b
 }
 
 // Whether start_at holds a time.
@@ -39,7 +33,7 @@ pub fn ended(s: &[u32], t: usize) -> bool
 {
     let done = state::row_is(s, Property::STATE, t, Tag::STATE, State::COMPLETED);
     let dropped = state::row_is(s, Property::STATE, t, Tag::STATE, State::DISCARDED);
-    both(either(done, dropped), !timed(s, t))
+    (done || dropped) && !timed(s, t)
 }
 
 // Of the tasks that a task waits for: whether there is one, whether all are over, one is completed, all are discarded.
@@ -57,16 +51,11 @@ fn noted(s: &[u32], waits: bool, a: usize, b: Before) -> Before
 {
     let done = state::row_is(s, Property::STATE, a, Tag::STATE, State::COMPLETED);
     let dropped = state::row_is(s, Property::STATE, a, Tag::STATE, State::DISCARDED);
-    let free = !waits;
-    let any = either(b.any, waits);
-    let over = both(b.over, either(free, ended(s, a)));
-    let completed = either(b.completed, both(waits, done));
-    let discarded = both(b.discarded, either(free, dropped));
     Before {
-        any: any,
-        over: over,
-        completed: completed,
-        discarded: discarded,
+        any: b.any || waits,
+        over: b.over && (!waits || ended(s, a)),
+        completed: b.completed || (waits && done),
+        discarded: b.discarded && (!waits || dropped),
     }
 }
 
@@ -80,10 +69,8 @@ pub fn antecedents(s: &[u32], row: Marks) -> Before
         completed: false,
         discarded: true,
     };
-    let mut a: usize = 0;
-    while a < Tasks::LIMIT {
-        b = noted(s, row[a], a, b);
-        a += 1;
+    for (a, waits) in row.iter().enumerate() {
+        b = noted(s, *waits, a, b);
     }
     b
 }
@@ -92,8 +79,5 @@ pub fn antecedents(s: &[u32], row: Marks) -> Before
 pub fn mark(m: Marks, t: usize) -> bool
     ensures { result ≡ marked m t }
 {
-    if t < Tasks::LIMIT {
-        return m[t];
-    }
-    false
+    t < Tasks::LIMIT && m[t]
 }

@@ -7,7 +7,7 @@ returns-then-found-clause-asks c =
     let a = c.args in
     asks_there a.out.now a.n a.c a.p a.k a.x c.if-found.true c.found.ensures
 
-pub returns-clause-asks : goal.returns-clause-asks
-returns-clause-asks c =
+pub returns-else-found-clause-asks : goal.returns-else-found-clause-asks
+returns-else-found-clause-asks c =
     let a = c.args in
     asks_new a.out.now a.n a.c a.p a.k a.x c.push.new.out c.push.result c.if-found.false c.found.ensures c.push.ensures.pushes

@@ -1,6 +1,5 @@
 -- `review_one`: the first condition that holds.
 use Rattle.operations.specs.Review.{rows_1, rows_2, rows_3}
-use borrow.Author.Rules.{rules}
 use Rattle.operations.proofs.review_one.Goals as goal
 
 pub returns-then-initialises-clause-review_rows : goal.returns-then-initialises-clause-review_rows
