@@ -1,18 +1,17 @@
 -- 8.3.6: the contract of adding a value, and that the code's cases meet it. By what the plan says of data items and their types, and the value that is given.
 use Rattle.std.specs.Prelude.{ℕ, ◌+◌, ◌*◌, ◌<◌, ◌≡◌, refl, Bool, true, false, List, ℤ, get_or}
-use Rattle.std.proofs.Common.{sym, ap, subst, ◌∙◌}
+use Rattle.std.proofs.Common.{sym, subst, ◌∙◌}
 use Rattle.std.proofs.Math.Option.{Option, none, some}
 use Rattle.paper_expressions.specs.Values as paper
-use Rattle.paper_expressions.specs.Types.{Declared, inferred, Of}
+use Rattle.paper_expressions.specs.Types.{inferred, Of}
 use Rattle.paper_expressions.proofs.Laws.WithinLimits.{Limited}
-use Rattle.paper_rows.specs.Table.{data_item, ◌№◌, type, type_is, Table, Contains, DataItemId}
+use Rattle.paper_rows.specs.Table.{DataItemId}
 use Rattle.paper_rows.proofs.Laws.Booleans.{is_false}
 use Rattle.paper_calls.specs.Calls as Calls
 use Calls.{Guideline, State, loaded, Unready, Small, add_data_value, Calls, add_7, add_8, add_9, add_9_none, add_6, add_done, refuses, done}
 use Rattle.paper_calls.proofs.Laws.CallLaws.{add_mild, small_within}
 use Rattle.paper_calls.proofs.Laws.TotalLaws.{adds_value, is_add}
 use Rattle.values.specs.declared.value.Value.{Value}
-use Rattle.values.specs.Meaning.{meaning_v}
 use Rattle.state.specs.Items as Items
 use Rattle.holding.specs.Holding.{Holds}
 use Rattle.holding.specs.Shown.{kept}

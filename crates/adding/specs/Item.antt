@@ -1,6 +1,6 @@
 -- Which data items there are, and their declared types, by the plan. By the view that the plan's columns show.
-use Rattle.std.specs.Prelude.{ℕ, ◌+◌, ◌<◌, ◌≤◌, ◌≡◌, refl, Bool, List, get_or, length, take, drop}
-use Rattle.std.proofs.Common.{arith, sym, ap, subst, ◌∙◌, length-take}
+use Rattle.std.specs.Prelude.{ℕ, ◌+◌, ◌<◌, ◌≤◌, ◌≡◌, Bool, List, get_or, length}
+use Rattle.std.proofs.Common.{arith, sym, ◌∙◌, length-take}
 use Rattle.paper_expressions.specs.Types.{Declared}
 use Rattle.paper_expressions.specs.View.{At}
 use Rattle.paper_guideline.specs.Structure.{TopLevel, DataItem, data_items}
@@ -10,7 +10,6 @@ use Rattle.paper_rows.proofs.Laws.Lists.{at_below, indexed_at}
 use Rattle.paper_engine.proofs.Laws.Kept.{adds, has, fixed_class, fixed_type, item_view}
 use Rattle.parts.specs.Codes.{declared_code}
 use Rattle.truths.specs.Part.{part_of, part_at}
-use Rattle.planned.specs.Planned.{item_names}
 use Rattle.holding.specs.Holding.{Holds}
 use Rattle.holding.specs.Shown.{kept, planned}
 use Rattle.item_rows.specs.ItemLaws.{defined}

@@ -2,7 +2,7 @@
 use Rattle.std.specs.Prelude.{ℕ, ◌+◌, ◌*◌, ◌<◌, ◌≤◌, ◌≡◌, refl, Bool, false, ◌⊎◌, List, get_or, set, length}
 use Rattle.std.proofs.Common.{arith, sym, ap, subst, ◌∙◌, inl, inr, length-set, get_or-set_same, get_or-set_other}
 use Rattle.std.proofs.Math.Decide.{dec_lt, ℕ_discrete}
-use Rattle.std.proofs.Math.Option.{Option, none, some}
+use Rattle.std.proofs.Math.Option.{Option, some}
 use Rattle.paper_expressions.specs.Values as paper
 use Rattle.paper_guideline.specs.Structure.{TopLevel}
 use Rattle.paper_rows.specs.Table.{task, data_item, Component, ◌№◌, Property, value, requested, RowValue, value_is, truth_row, Table}
@@ -14,7 +14,7 @@ use Rattle.blocks.specs.Blocks.{Copied, Outside}
 use Rattle.state.specs.Cell.{Cell, plain_truth}
 use Rattle.state.specs.Items as Items
 use Rattle.state.specs.Items.{holds_as}
-use Rattle.state.specs.Layout.{Rows, TaskColumn}
+use Rattle.state.specs.Layout.{Rows}
 use Rattle.items.specs.Encode.{Encodes}
 use Rattle.holding.specs.Holding.{Holds, ItemAt}
 use Rattle.replying.specs.Replying.{Elsewhere}

@@ -69,23 +69,21 @@ pub fn add(
 ) -> Reply
     ensures { Adds item tags.now numbers.now bytes.now texts.old plan.now state.old texts.new state.new result }
 {
-    if replying::ready(state) {
-        let n = blocks::cell(plan, Plan::ITEMS) as u64;
-        if item < n {
-            if item < DataItems::LIMIT as u64 {
-                let d = item as usize;
-                let k = blocks::cell(plan, Plan::ITEM_TYPE + d);
-                if value_given::typed(tags, numbers, k) {
-                    if value_given::within(tags, numbers, bytes) {
-                        store(texts, state, d, bytes, value_given::value(tags, numbers));
-                        return Reply::Done;
-                    }
-                    return Reply::Refused(Refusal::LIMIT);
-                }
-                return Reply::Refused(Refusal::VALUE);
-            }
-        }
+    if !replying::ready(state) {
+        return Reply::Refused(Refusal::UNREADY);
+    }
+    let n = u64::from(blocks::cell(plan, Plan::ITEMS));
+    if item >= n || item >= DataItems::LIMIT as u64 {
         return Reply::Refused(Refusal::NO_SUCH);
     }
-    Reply::Refused(Refusal::UNREADY)
+    let d = item as usize;
+    let k = blocks::cell(plan, Plan::ITEM_TYPE + d);
+    if !value_given::typed(tags, numbers, k) {
+        return Reply::Refused(Refusal::VALUE);
+    }
+    if !value_given::within(tags, numbers, bytes) {
+        return Reply::Refused(Refusal::LIMIT);
+    }
+    store(texts, state, d, bytes, value_given::value(tags, numbers));
+    Reply::Done
 }

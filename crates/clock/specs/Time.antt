@@ -1,7 +1,7 @@
 -- 8.3.3: the contract of setting the engine time, and that the code's three cases meet it. By the one cell that is written.
 use Rattle.std.specs.Prelude.{ℕ, ◌+◌, ◌*◌, ◌<◌, ◌≤◌, ◌≡◌, refl, Bool, true, false, List, get_or, set, length}
-use Rattle.std.proofs.Common.{arith, sym, ap, subst, ◌∙◌, length-set, get_or-set_same, get_or-set_other}
-use Rattle.paper_calls.specs.Calls.{time_limit, loaded, set_engine_time, time_7, time_6, time_done, refuses, done}
+use Rattle.std.proofs.Common.{arith, sym, ap, ◌∙◌, length-set, get_or-set_same, get_or-set_other}
+use Rattle.paper_calls.specs.Calls.{time_limit, set_engine_time, time_7, time_6, time_done, refuses, done}
 use Rattle.replying.specs.declared.Reply.{Reply}
 use Rattle.replying.specs.Replying.{published, holds_loaded, Elsewhere, Replies}
 use Rattle.replying.specs.Ready.{ready_f, replies_7, replies_refused, replies_done}

@@ -11,12 +11,12 @@ use state::Header;
 pub fn set_time(state: &mut [u32], time: u64) -> Reply
     ensures { SetsTime time state.old state.new result }
 {
-    if replying::ready(state) {
-        if time <= limits::EngineTime::LIMIT {
-            blocks::put_cell(state, Header::TIME, time as u32);
-            return Reply::Done;
-        }
+    if !replying::ready(state) {
+        return Reply::Refused(Refusal::UNREADY);
+    }
+    if time > limits::EngineTime::LIMIT {
         return Reply::Refused(Refusal::LIMIT);
     }
-    Reply::Refused(Refusal::UNREADY)
+    blocks::put_cell(state, Header::TIME, time as u32);
+    Reply::Done
 }

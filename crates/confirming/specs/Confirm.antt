@@ -1,14 +1,13 @@
 -- 8.3.4: the contract of confirming a task, and that the code's cases meet it. By the plan's number of tasks, and the one row that is written.
-use Rattle.std.specs.Prelude.{ℕ, ◌<◌, ◌≤◌, ◌≡◌, refl, Bool, true, false, ◌||◌, List, eqb, get_or}
-use Rattle.std.proofs.Common.{arith, sym, ap, subst, ◌∙◌, eq-eqb, ne_eqb, eqb-true}
+use Rattle.std.specs.Prelude.{ℕ, ◌<◌, ◌≡◌, refl, Bool, true, false, ◌||◌, List, eqb, get_or}
+use Rattle.std.proofs.Common.{arith, sym, ap, subst, ◌∙◌, eq-eqb, eqb-true}
 use Rattle.std.proofs.Math.Option.{Option, some}
 use Rattle.paper_expressions.proofs.Laws.Search.{no_clash}
-use Rattle.paper_rows.specs.Table.{task, Component, ◌№◌, Property, confirmed, RowValue, truth_row, TaskId}
+use Rattle.paper_rows.specs.Table.{task, Component, ◌№◌, Property, confirmed, RowValue, truth_row}
 use Rattle.paper_calls.specs.Calls.{Guideline, loaded, Unready, confirm_task, confirm_7, confirm_8, confirm_done, ConfirmTask, confirm_2, refuses, done}
 use Rattle.paper_calls.proofs.Laws.CallLaws.{confirm_mild}
 use Rattle.paper_calls.proofs.Laws.TotalLaws.{confirms}
 use Rattle.state.specs.Layout.{confirmed_column}
-use Rattle.review.specs.Changes.{tasks_in}
 use Rattle.holding.specs.Holding.{Holds}
 use Rattle.holding.specs.Shown.{worked, kept}
 use Rattle.replying.specs.declared.Reply.{Reply}

@@ -13,15 +13,13 @@ const TASKS: u64 = Tasks::LIMIT as u64;
 pub fn confirm(plan: &[u32], state: &mut [u32], task: u64) -> Reply
     ensures { Confirms task plan.now state.old state.new result }
 {
-    if replying::ready(state) {
-        let n = blocks::cell(plan, Plan::TASKS) as u64;
-        if task < n {
-            if task < TASKS {
-                replying::make_true(state, Property::CONFIRMED, task as usize);
-                return Reply::Done;
-            }
-        }
+    if !replying::ready(state) {
+        return Reply::Refused(Refusal::UNREADY);
+    }
+    let n = u64::from(blocks::cell(plan, Plan::TASKS));
+    if task >= n || task >= TASKS {
         return Reply::Refused(Refusal::NO_SUCH);
     }
-    Reply::Refused(Refusal::UNREADY)
+    replying::make_true(state, Property::CONFIRMED, task as usize);
+    Reply::Done
 }

@@ -1,6 +1,6 @@
 -- When a text that a caller gives is within the limits, by its bytes.
-use Rattle.std.specs.Prelude.{ℕ, zero, suc, ◌+◌, ◌<◌, ◌≤◌, ◌≡◌, refl, Bool, true, false, List, [], ◌∷◌, get_or, length}
-use Rattle.std.proofs.Common.{arith, not-suc-le-zero, sym, ap, subst, ◌∙◌, below_more}
+use Rattle.std.specs.Prelude.{ℕ, zero, suc, ◌+◌, ◌<◌, ◌≤◌, ◌≡◌, refl, true, false, List, [], ◌∷◌, get_or, length}
+use Rattle.std.proofs.Common.{arith, not-suc-le-zero, below_more}
 use Rattle.paper_expressions.proofs.Laws.Tests.{contra}
 use Rattle.paper_expressions.specs.View.{At, at_first, at_later}
 use Rattle.paper_rows.proofs.Laws.Lists.{at_below}

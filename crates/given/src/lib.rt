@@ -12,15 +12,13 @@ use values::Handle;
 pub fn small_text(b: &[u8], p: usize, n: usize) -> bool
     ensures { Tests result (SmallText (cells_of b.now p n)) }
 {
-    if Handle::TEXT_LIMIT < n {
+    if n > Handle::TEXT_LIMIT {
         return false;
     }
-    let mut k: usize = 0;
-    while k < n {
-        if Guideline::LAST_BYTE < parts::names::at(b, p, k) {
+    for k in 0..n {
+        if parts::names::at(b, p, k) > Guideline::LAST_BYTE {
             return false;
         }
-        k += 1;
     }
     true
 }

@@ -1,18 +1,17 @@
 -- What the rows of a data item are, by the plan and the state. By its definition in the guideline.
-use Rattle.std.specs.Prelude.{ℕ, ◌+◌, ◌*◌, ◌-◌, ◌<◌, ◌≤◌, ◌≡◌, refl, Bool, List, get_or, length, take, drop}
-use Rattle.std.proofs.Common.{arith, sym, ap, subst, ◌∙◌, length-take, length-drop}
-use Rattle.std.proofs.Math.Option.{Option, none, some}
+use Rattle.std.specs.Prelude.{ℕ, ◌+◌, ◌<◌, ◌≡◌, refl, Bool, List, get_or, length}
+use Rattle.std.proofs.Common.{arith, sym, ap, ◌∙◌, length-take, length-drop}
+use Rattle.std.proofs.Math.Option.{some}
 use Rattle.paper_expressions.specs.Types.{Declared, a_text, an_integer, a_boolean, a_datetime, a_date, a_time, a_real, a_setof_text, a_setof_integer, a_setof_real}
-use Rattle.paper_expressions.specs.View.{Item, At}
+use Rattle.paper_expressions.specs.View.{At}
 use Rattle.paper_guideline.specs.Structure.{TopLevel, DataItem, data_items}
-use Rattle.paper_rows.specs.Table.{data_item, ◌№◌, a_data_item, Property, class, name, type, class_is, type_is, text_row, Table}
+use Rattle.paper_rows.specs.Table.{data_item, ◌№◌, a_data_item, class, name, type, class_is, type_is, text_row, Table}
 use Rattle.paper_rows.specs.Load.{data_item_3, data_item_4a, data_item_4b}
 use Rattle.paper_rows.proofs.Laws.Lists.{below_at, at_indexed, indexed_at}
 use Rattle.paper_engine.proofs.Laws.Kept.{has, fixed_class, fixed_name, fixed_type, item_view, view_f}
 use Rattle.parts.specs.Codes.{declared_code}
 use Rattle.parts.specs.Texts.{text_at_fn}
 use Rattle.truths.specs.Part.{part_of, part_at}
-use Rattle.planned.specs.Planned.{item_names}
 use Rattle.holding.specs.Holding.{Holds}
 use Rattle.holding.specs.Shown.{kept, planned}
 use Rattle.row_shown.specs.Shown.{type_of}

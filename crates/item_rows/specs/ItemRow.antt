@@ -2,16 +2,15 @@
 use Rattle.std.specs.Prelude.{ℕ, ◌+◌, ◌*◌, ◌<◌, ◌≡◌, refl, Bool, true, false, cond, List, eqb, get_or}
 use Rattle.std.proofs.Common.{arith, sym, ap, subst, ◌∙◌, eq-eqb, ne_eqb}
 use Rattle.std.proofs.Math.Option.{Option, none, some}
-use Rattle.paper_expressions.proofs.Laws.Search.{no_clash}
 use Rattle.paper_expressions.specs.Values.{one, text}
 use Rattle.paper_expressions.specs.Values as paper
 use Rattle.paper_expressions.specs.View.{At}
 use Rattle.paper_guideline.specs.Structure.{TopLevel}
-use Rattle.paper_rows.specs.Table.{data_item, ◌№◌, a_data_item, Property, properties, class, name, type, value, requested, RowValue, value_is, class_is, type_is, text_row, Table}
+use Rattle.paper_rows.specs.Table.{data_item, ◌№◌, a_data_item, Property, properties, class, name, type, value, requested, RowValue, value_is, type_is, text_row, Table}
 use Rattle.paper_rows.specs.Load as Load
 use Load.{Adds}
 use Rattle.paper_rows.proofs.Laws.Ranks.{property_rank}
-use Rattle.paper_rows.proofs.Laws.Seen.{value_f, sees_value}
+use Rattle.paper_rows.proofs.Laws.Seen.{value_f}
 use Rattle.paper_engine.proofs.Laws.Kept as Kept
 use Kept.{Moving, adds}
 use Rattle.paper_calls.specs.Calls as Calls
@@ -21,7 +20,7 @@ use Rattle.truths.specs.Part.{part_of, part_at}
 use Rattle.state.specs.Cell.{Cell}
 use Rattle.holding.specs.Holding.{Holds, ItemAt}
 use Rattle.holding.specs.Values.{item_shown}
-use Rattle.holding.specs.Shown.{kept, planned}
+use Rattle.holding.specs.Shown.{kept}
 use Rattle.row_shown.specs.declared.Row.{Row}
 use Rattle.row_shown.specs.declared.Shown.TheVariants.{NoRow, OfValue, OfClass, OfType}
 use Rattle.row_shown.specs.Shown.{Plain, NameOf, type_of, published_row, absent, present, Shows}

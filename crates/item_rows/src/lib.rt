@@ -32,13 +32,13 @@ fn value(s: &[u32], d: usize) -> Row
     ensures { ValueRow s.now d result }
 {
     if has_value(s, d) {
-        let v = value_of(s, d);
-        return Row {
+        Row {
             shown: Shown::OfValue,
-            value: v,
-        };
+            value: value_of(s, d),
+        }
+    } else {
+        row_shown::plain(Shown::NoRow)
     }
-    row_shown::plain(Shown::NoRow)
 }
 
 // The row of the property with the number `p` of the data item `d`.

@@ -36,10 +36,7 @@ fn load(
 ) -> usize
     ensures { LoadAnswered s.now from to (tables parts.old plan.old waits.old texts.old state.old) (tables parts.new plan.new waits.new texts.new state.new) (buffer out.old o) (buffer out.new result) }
 {
-    if to < from {
-        return o;
-    }
-    if s.len() < to {
+    if from > to || to > s.len() {
         return o;
     }
     let mut rows = [0u32; Rows::CELLS];
@@ -133,8 +130,7 @@ fn answer(
 ) -> usize
     ensures { CallAnswered s.now tags.now numbers.now bytes.now l.call (tables parts.old plan.old waits.old texts.old state.old) (tables parts.new plan.new waits.new texts.new state.new) (buffer out.old o) (buffer out.new result) }
 {
-    let c = l.call;
-    match c {
+    match l.call {
         Call::Load(from, to) => load(s, from, to, parts, plan, waits, texts, state, out, o),
         Call::Run(bound, lent) => ran(run(parts, texts, plan, *waits, state, lent, bound), out, o),
         Call::Time(time) => replied(clock::set_time(state, time), out, o),
@@ -175,5 +171,5 @@ pub fn line(
     let p = answer(
         l, s, &tags, &numbers, &bytes, parts, plan, waits, texts, state, out, from,
     );
-    Answered { next: next, o: p }
+    Answered { next, o: p }
 }

@@ -52,11 +52,11 @@ fn row(
     ensures { RowListed texts.now plan.now waits state.now kind number property (buffer out.old o) (buffer out.new result) }
 {
     let row = row_read::read(plan, waits, state, kind, number, property);
-    let s = row.shown;
-    if is_row(s) {
-        return row_line(texts, kind, number, property, row, out, o);
+    if is_row(row.shown) {
+        row_line(texts, kind, number, property, row, out, o)
+    } else {
+        o
     }
-    o
 }
 
 // The rows of a component.
@@ -72,11 +72,9 @@ fn component(
 ) -> usize
     ensures { ComponentRows texts.now plan.now waits state.now kind number (buffer out.old o) (buffer out.new result) }
 {
-    let mut property = 0u64;
     let mut p = o;
-    while property < Properties::NUMBER {
+    for property in 0..Properties::NUMBER {
         p = row(texts, plan, waits, state, kind, number, property, out, p);
-        property += 1;
     }
     p
 }
@@ -85,9 +83,7 @@ fn component(
 fn is_there(plan: &[u32], waits: WaitTable, state: &[u32], kind: u64, number: u64) -> bool
     ensures { IsThere plan.now waits state.now kind number result }
 {
-    let row = row_read::read(plan, waits, state, kind, number, CLASS);
-    let s = row.shown;
-    is_row(s)
+    is_row(row_read::read(plan, waits, state, kind, number, CLASS).shown)
 }
 
 // The rows of the components of a kind. There are no more of any kind than there may be sources.
@@ -102,14 +98,12 @@ fn of_kind(
 ) -> usize
     ensures { KindListed texts.now plan.now waits state.now kind (buffer out.old o) (buffer out.new result) }
 {
-    let mut number = 0u64;
     let mut p = o;
-    while number < Sources::LIMIT as u64 {
+    for number in 0..Sources::LIMIT as u64 {
         if !is_there(plan, waits, state, kind, number) {
             return p;
         }
         p = component(texts, plan, waits, state, kind, number, out, p);
-        number += 1;
     }
     p
 }
@@ -124,11 +118,9 @@ fn of_kinds(
 ) -> usize
     ensures { Series (KindListed texts.now plan.now waits state.now) 7 (buffer out.old o) (buffer out.new result) }
 {
-    let mut kind = 0u64;
     let mut p = o;
-    while kind < KINDS {
+    for kind in 0..KINDS {
         p = of_kind(texts, plan, waits, state, kind, out, p);
-        kind += 1;
     }
     p
 }
@@ -162,9 +154,9 @@ pub fn all(
     ensures { RowsAnswered texts.now plan.now waits state.now (buffer out.old o) (buffer out.new result) }
 {
     let root = row_read::read(plan, waits, state, Kind::TASK, 0, CLASS);
-    let s = root.shown;
-    if is_refused(s) {
-        return refused_line(refusal(s), 0, out, o);
+    if is_refused(root.shown) {
+        refused_line(refusal(root.shown), 0, out, o)
+    } else {
+        listed(texts, plan, waits, state, out, o)
     }
-    listed(texts, plan, waits, state, out, o)
 }

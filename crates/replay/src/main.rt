@@ -15,10 +15,7 @@ fn room() -> [u8; 1048576] {
 
 // Replays the first n bytes of a buffer.
 fn first(text: &[u8], n: usize, out: &mut [u8]) -> bool {
-    if text.len() < n {
-        return false;
-    }
-    scripts::replay(&text[..n], out)
+    n <= text.len() && scripts::replay(&text[..n], out)
 }
 
 // Reads one script and answers it, where there is one.
@@ -30,14 +27,12 @@ fn next(text: &mut [u8], out: &mut [u8]) -> bool {
     }
 }
 
-// A proved loop has to end, so it counts its turns down, from a number that no batch uses up.
+// A proved loop has to end, so its turns are counted, up to a number that no batch uses up.
 fn all(text: &mut [u8], out: &mut [u8]) {
-    let mut turns = u64::MAX;
-    while 0 < turns {
+    for _ in 0..u64::MAX {
         if !next(text, out) {
             return;
         }
-        turns -= 1;
     }
 }
 

@@ -1,10 +1,10 @@
 -- What holds a state after a call has written some cells: the rest is as it was. By the fields of `Holds`.
-use Rattle.std.specs.Prelude.{ℕ, ◌+◌, ◌*◌, ◌<◌, ◌≤◌, ◌≡◌, refl, Bool, List, get_or, length}
-use Rattle.std.proofs.Common.{arith, sym, ap, subst, ◌∙◌}
+use Rattle.std.specs.Prelude.{ℕ, ◌+◌, ◌*◌, ◌<◌, ◌≤◌, ◌≡◌, refl, Bool, List, get_or}
+use Rattle.std.proofs.Common.{arith, sym, subst, ◌∙◌}
 use Rattle.std.proofs.Math.Option.{Option}
 use Rattle.paper_expressions.specs.Values.{Value}
 use Rattle.paper_guideline.specs.Structure.{TopLevel}
-use Rattle.paper_rows.specs.Table.{task, data_item, ◌№◌, Property, value, requested, Table}
+use Rattle.paper_rows.specs.Table.{data_item, ◌№◌, Property, value, Table}
 use Rattle.paper_rows.proofs.Laws.Seen.{value_f}
 use Rattle.paper_calls.specs.Calls.{time_limit}
 use Rattle.paper_calls.proofs.Laws.CallLaws.{GoodTable}

@@ -1,9 +1,8 @@
 -- Only one reply and one set of tables meet the contract of a call: a call leaves one state, and a state has one set of cells and bytes. By the regions of the tables.
 use Rattle.std.specs.Prelude.{ℕ, zero, suc, ◌+◌, ◌*◌, ◌-◌, ◌/◌, ◌%◌, ◌<◌, ◌≤◌, ◌≡◌, refl, Bool, List, get_or, length}
-use Rattle.std.proofs.Common.{arith, sym, ap, subst, ◌∙◌, ext_get_or}
+use Rattle.std.proofs.Common.{arith, sym, subst, ◌∙◌, ext_get_or}
 use Rattle.std.proofs.Math.Decide.{dec_lt}
 use Rattle.std.proofs.Math.Option.{Option}
-use Rattle.paper_expressions.specs.Values.{Value}
 use Rattle.paper_guideline.specs.Structure.{TopLevel}
 use Rattle.paper_rows.specs.Table.{Property, RowValue, Table}
 use Rattle.paper_calls.specs.Calls as Calls
@@ -11,10 +10,9 @@ use Calls.{State, empty, loaded, Call, Calls, refuses}
 use Rattle.paper_calls.proofs.Laws.CallLaws.{one_call}
 use Rattle.paper_calls.proofs.Laws.TotalLaws.{NotLoad, is_run, is_time, is_confirm, is_add, is_trigger, is_read}
 use Rattle.state.specs.Cell.{Cell}
-use Rattle.state.specs.Items as Items
 use Rattle.state.specs.Layout.{TaskColumn, state_column, trigger_column, confirmed_column, count_column, cycles_column, start_column, in_progress_column, discarded_column, completed_column, procedure_column}
 use Rattle.holding.specs.Holding.{Holds}
-use Rattle.replying.specs.Replying.{Holding, holds_none, holds_loaded, Elsewhere, Called, Replies}
+use Rattle.replying.specs.Replying.{Holding, holds_none, holds_loaded, Replies}
 
 -- ---- a state has one set of cells
 

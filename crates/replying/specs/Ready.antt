@@ -1,10 +1,10 @@
 -- The cells that tell whether a call is refused with 7, and the ways in which a call meets its contract. By the states that tables hold.
 use Rattle.std.specs.Prelude.{ℕ, ◌≡◌, refl, Bool, true, false, ◌&&◌, List, eqb, get_or}
-use Rattle.std.proofs.Common.{arith, sym, ap, subst, ◌∙◌, eq-eqb, eqb-true}
+use Rattle.std.proofs.Common.{arith, sym, ap, ◌∙◌, eq-eqb, eqb-true}
 use Rattle.paper_expressions.proofs.Laws.Tests.{and_l, and_r}
 use Rattle.paper_expressions.proofs.Laws.Search.{no_clash}
 use Rattle.paper_calls.specs.Calls as Calls
-use Calls.{Guideline, State, empty, loaded, Call, Unready, nothing_loaded, flag_set, Calls, refuses, done}
+use Calls.{Guideline, State, loaded, Call, Unready, nothing_loaded, flag_set, Calls, refuses, done}
 use Rattle.state.specs.Cell.{bit}
 use Rattle.paper_guideline.specs.Structure.{TopLevel}
 use Rattle.paper_rows.specs.Table.{Table}

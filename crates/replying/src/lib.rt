@@ -29,10 +29,7 @@ pub fn loaded(s: &[u32]) -> bool
 pub fn ready(s: &[u32]) -> bool
     ensures { result ≡ ready_f s.now }
 {
-    if loaded(s) {
-        return blocks::cell(s, Header::FLAG) == 0;
-    }
-    false
+    loaded(s) && blocks::cell(s, Header::FLAG) == 0
 }
 
 // Makes the row of the property `p` of the task `t` true.
@@ -40,7 +37,7 @@ pub fn make_true(s: &mut [u32], p: u16, t: usize)
     requires { t < 32 }
     ensures { s.new ≡ put_true s.old p t }
 {
-    let q = p as usize;
+    let q = usize::from(p);
     blocks::put_cell(s, q + t, TRUTH);
     blocks::put_cell(s, q + Tasks::LIMIT + t, Truth::TRUE);
 }

@@ -27,10 +27,10 @@ fn made(number: u32, shown: u32, first: u32, second: u32) -> Answer
     ensures { (result.number ≡ number) × (result.shown ≡ shown) × (result.first ≡ first) × (result.second ≡ second) }
 {
     Answer {
-        number: number,
-        shown: shown,
-        first: first,
-        second: second,
+        number,
+        shown,
+        first,
+        second,
     }
 }
 
@@ -71,13 +71,7 @@ const LAST_KIND: u32 = 6;
 fn one_of(first: u32, last: u32, n: u32) -> u32
     ensures { result ≡ one_of first last n }
 {
-    if last < n {
-        return last;
-    }
-    if n < first {
-        return last;
-    }
-    n
+    if (first..=last).contains(&n) { n } else { last }
 }
 
 // The number of the state that `n` stands for; so for classes, types and kinds.
@@ -102,7 +96,7 @@ fn type_number(n: u32) -> u32
 fn kind_number(n: u8) -> u32
     ensures { result ≡ kind_number (kind-of n) }
 {
-    one_of(FIRST_KIND, LAST_KIND, n as u32)
+    one_of(FIRST_KIND, LAST_KIND, u32::from(n))
 }
 
 fn by_case(s: Shown) -> Answer
@@ -117,45 +111,33 @@ fn by_case(s: Shown) -> Answer
         Shown::OfType(n) => made(0, Case::TYPE, type_number(n), 0),
         Shown::OfTime(n) => made(0, Case::TIME, n, 0),
         Shown::OfComponent(k, n) => made(0, Case::COMPONENT, kind_number(k), n),
-        Shown::Refused(n) => made(n as u32, Case::NO_ROW, 0, 0),
+        Shown::Refused(n) => made(u32::from(n), Case::NO_ROW, 0, 0),
     }
 }
 
 fn is_value(s: Shown) -> bool
     ensures { result ≡ valueb s }
 {
-    match s {
-        Shown::NoRow => false,
-        Shown::There => false,
-        Shown::OfValue => true,
-        Shown::OfState(_) => false,
-        Shown::OfClass(_) => false,
-        Shown::OfType(_) => false,
-        Shown::OfTime(_) => false,
-        Shown::OfComponent(_, _) => false,
-        Shown::Refused(_) => false,
-    }
+    matches!(s, Shown::OfValue)
 }
 
 // Writes the value that is shown, in its one form; zeros where none is shown.
 fn write(b: &[u8], r: Row, cells: &mut [u32], out: &mut [u8])
     ensures { Written b.now r cells.new out.new }
 {
-    let s = r.shown;
-    if is_value(s) {
-        let v = r.value;
-        items::encode(b, v, 0, cells, out);
-        return;
+    if is_value(r.shown) {
+        items::encode(b, r.value, 0, cells, out);
+    } else {
+        cells.fill(0);
+        out.fill(0);
     }
-    blank::clear(cells);
-    blank::clear_bytes(out);
 }
 
 // The answer, and the value that is shown: its texts have their places from 0 on among `out`.
 pub fn tell(b: &[u8], r: Row, cells: &mut [u32; Form::CELLS], out: &mut [u8; Form::BYTES]) -> Answer
     ensures { Tells b.now r cells.new out.new result }
 {
-    let s = r.shown;
+    let answer = by_case(r.shown);
     write(b, r, cells, out);
-    by_case(s)
+    answer
 }

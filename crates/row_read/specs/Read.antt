@@ -1,7 +1,7 @@
 -- Reading a row: its contract, and that the code's cases meet it. By the kind, which is one, and the property, which is one.
 use Rattle.std.specs.Prelude.{ℕ, ◌<◌, ◌≡◌, refl, Bool, true, false, List, get_or, length}
 use Rattle.std.proofs.Common.{sym, ap, subst, ◌∙◌, eq-eqb}
-use Rattle.std.proofs.Math.Option.{Option, none, some}
+use Rattle.std.proofs.Math.Option.{Option, some}
 use Rattle.paper_expressions.proofs.Laws.Search.{no_clash, at_one}
 use Rattle.paper_expressions.specs.View.{At, at_first, at_later}
 use Rattle.paper_guideline.specs.Structure.{TopLevel}

@@ -1,10 +1,9 @@
 // Reading a row of the Properties table, by kind, number and property.
 #![tactic(auto)]
 
-ghost use Rattle.std.specs.Prelude.{◌≡◌, ◌-◌};
+ghost use Rattle.std.specs.Prelude.{◌≡◌};
 ghost use Rattle.paper_rows.specs.Table.{task, data_item, source};
 ghost use Rattle.planned.specs.Planned.{sources_in};
-ghost use Rattle.replying.specs.Ready.{loaded_f};
 ghost use Rattle.row_read.specs.Found.{OfKind};
 ghost use Rattle.row_read.specs.Read.{RowOf, ReadsRow};
 
@@ -36,10 +35,7 @@ impl Properties {
 fn of_task(f: &[u32], w: WaitTable, s: &[u32], n: u64, p: u64) -> Row
     ensures { OfKind task f.now w s.now n p result }
 {
-    if blocks::cell(f, Plan::TASKS) as u64 <= n {
-        return row_shown::plain(Shown::NoRow);
-    }
-    if Tasks::LIMIT as u64 <= n {
+    if n >= u64::from(blocks::cell(f, Plan::TASKS)) || n >= Tasks::LIMIT as u64 {
         return row_shown::plain(Shown::NoRow);
     }
     task_rows::task_row(f, w, s, n as usize, p)
@@ -49,41 +45,25 @@ fn of_task(f: &[u32], w: WaitTable, s: &[u32], n: u64, p: u64) -> Row
 fn of_item(f: &[u32], w: WaitTable, s: &[u32], n: u64, p: u64) -> Row
     ensures { OfKind data_item f.now w s.now n p result }
 {
-    if blocks::cell(f, Plan::ITEMS) as u64 <= n {
-        return row_shown::plain(Shown::NoRow);
-    }
-    if DataItems::LIMIT as u64 <= n {
+    if n >= u64::from(blocks::cell(f, Plan::ITEMS)) || n >= DataItems::LIMIT as u64 {
         return row_shown::plain(Shown::NoRow);
     }
     item_rows::item_row(f, s, n as usize, p)
-}
-
-// The number before `n`, or 0.
-fn before(n: u32) -> u32
-    ensures { result ≡ n - 1 }
-{
-    if n == 0 {
-        return 0;
-    }
-    n - 1
 }
 
 // How many sources there are: those of the last task, and of all before it.
 fn sources(f: &[u32]) -> u64
     ensures { result ≡ sources_in f.now }
 {
-    let last = before(blocks::cell(f, Plan::TASKS)) as usize;
-    blocks::cell(f, Plan::FIRST_SOURCE + last) as u64 + blocks::cell(f, Plan::SOURCES + last) as u64
+    let last = blocks::cell(f, Plan::TASKS).saturating_sub(1) as usize;
+    u64::from(blocks::cell(f, Plan::FIRST_SOURCE + last)) + u64::from(blocks::cell(f, Plan::SOURCES + last))
 }
 
 // Of the source `n`.
 fn of_source(f: &[u32], w: WaitTable, s: &[u32], n: u64, p: u64) -> Row
     ensures { OfKind source f.now w s.now n p result }
 {
-    if sources(f) <= n {
-        return row_shown::plain(Shown::NoRow);
-    }
-    if Sources::LIMIT as u64 <= n {
+    if n >= sources(f) || n >= Sources::LIMIT as u64 {
         return row_shown::plain(Shown::NoRow);
     }
     source_rows::source_row(f, n as usize, p)
@@ -93,26 +73,15 @@ fn of_source(f: &[u32], w: WaitTable, s: &[u32], n: u64, p: u64) -> Row
 fn of_kind(f: &[u32], w: WaitTable, s: &[u32], kind: u64, n: u64, p: u64) -> Row
     ensures { RowOf kind n p f.now w s.now result }
 {
-    if kind == Kind::TASK {
-        return of_task(f, w, s, n, p);
+    match kind {
+        Kind::TASK => of_task(f, w, s, n, p),
+        Kind::DATA_ITEM => of_item(f, w, s, n, p),
+        Kind::SOURCE => of_source(f, w, s, n, p),
+        _ => row_shown::plain(Shown::NoRow),
     }
-    if kind == Kind::DATA_ITEM {
-        return of_item(f, w, s, n, p);
-    }
-    if kind == Kind::SOURCE {
-        return of_source(f, w, s, n, p);
-    }
-    row_shown::plain(Shown::NoRow)
 }
 
-// Whether rows may be read: after an exception too.
-fn readable(s: &[u32]) -> bool
-    ensures { result ≡ loaded_f s.now }
-{
-    replying::loaded(s)
-}
-
-// Reads a row: refused with 7 where nothing is loaded.
+// Reads a row, after an exception too: refused with 7 where nothing is loaded.
 pub fn read(
     plan: &[u32],
     waits: WaitTable,
@@ -123,11 +92,11 @@ pub fn read(
 ) -> Row
     ensures { ReadsRow kind number property plan.now waits state.now result }
 {
-    if readable(state) {
-        if property < Properties::NUMBER {
-            return of_kind(plan, waits, state, kind, number, property);
-        }
+    if !replying::loaded(state) {
+        return row_shown::plain(Shown::Refused(Refusal::UNREADY));
+    }
+    if property >= Properties::NUMBER {
         return row_shown::plain(Shown::NoRow);
     }
-    row_shown::plain(Shown::Refused(Refusal::UNREADY))
+    of_kind(plan, waits, state, kind, number, property)
 }

@@ -46,10 +46,9 @@ const STATE: u32 = Tag::STATE as u32;
 pub fn plain(shown: Shown) -> Row
     ensures { Plain shown result }
 {
-    let v = values::single(Scalar::Unknown);
     Row {
-        shown: shown,
-        value: v,
+        shown,
+        value: values::single(Scalar::Unknown),
     }
 }
 
@@ -57,10 +56,9 @@ pub fn plain(shown: Shown) -> Row
 pub fn scalar(s: Scalar) -> Row
     ensures { OfScalar s result }
 {
-    let v = values::single(s);
     Row {
         shown: Shown::OfValue,
-        value: v,
+        value: values::single(s),
     }
 }
 
@@ -75,10 +73,8 @@ pub fn name(h: usize) -> Row
 fn count(x: u32) -> Row
     ensures { CountOf x result }
 {
-    if x == 1 {
-        return scalar(Scalar::Int(Num { z: 1 }));
-    }
-    scalar(Scalar::Int(Num { z: 0 }))
+    let z = if x == 1 { 1 } else { 0 };
+    scalar(Scalar::Int(Num { z }))
 }
 
 // The row with the tag `k` and the number `x`.

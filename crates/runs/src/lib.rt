@@ -27,35 +27,28 @@ const UNREADY: u32 = Refusal::UNREADY as u32;
 fn answer(turn: Turn) -> Ran
     ensures { published result ≡ reported turn.ending turn.cycles }
 {
-    if turn.ending == Ending::QUIET {
-        return Ran::Quiet(turn.cycles);
+    match turn.ending {
+        Ending::QUIET => Ran::Quiet(turn.cycles),
+        Ending::BOUNDED => Ran::Bounded(turn.cycles),
+        Ending::EXCEPTION => Ran::Exception(turn.cycles),
+        LIMIT => Ran::Refused(Refusal::LIMIT),
+        _ => Ran::Refused(Refusal::UNREADY),
     }
-    if turn.ending == Ending::BOUNDED {
-        return Ran::Bounded(turn.cycles);
-    }
-    if turn.ending == Ending::EXCEPTION {
-        return Ran::Exception(turn.cycles);
-    }
-    if turn.ending == LIMIT {
-        return Ran::Refused(Refusal::LIMIT);
-    }
-    Ran::Refused(Refusal::UNREADY)
 }
 
 // A run that does not begin: no row of the lent table is touched.
 fn refused(ending: u32) -> Turn
     ensures { (result.going ≡ false) × (result.ending ≡ ending) × (result.lent ≡ 0) }
 {
-    let none = Asked {
-        n: 0,
-        cells: [0; Asked::NUMBERS],
-    };
     Turn {
         going: false,
-        ending: ending,
+        ending,
         cycles: 0,
         lent: 0,
-        asked: none,
+        asked: Asked {
+            n: 0,
+            cells: [0; Asked::NUMBERS],
+        },
     }
 }
 
@@ -71,16 +64,13 @@ fn begin(
 ) -> Turn
     ensures { Claims bound parts.now texts.now plan.now waits state.now lent texts.now state.now result }
 {
-    if replying::ready(state) {
-        if bound <= limits::Run::CYCLES as u64 {
-            if limits::Changes::ROWS <= lent {
-                return running::first(parts, texts, plan, waits, state, lent, bound);
-            }
-            return refused(LIMIT);
-        }
+    if !replying::ready(state) {
+        return refused(UNREADY);
+    }
+    if bound > limits::Run::CYCLES as u64 || lent < limits::Changes::ROWS {
         return refused(LIMIT);
     }
-    refused(UNREADY)
+    running::first(parts, texts, plan, waits, state, lent, bound)
 }
 
 // Runs the engine until a cycle asks for nothing, `bound` cycles are enacted, or the Exception flag is set. In every turn the rows that are
@@ -120,8 +110,7 @@ pub fn run_alone(
 {
     let mut turn = begin(parts, texts, plan, waits, state, lent, bound);
     while turn.going {
-        let asked = turn.asked;
-        turn = running::next(parts, texts, plan, waits, state, asked, turn, bound);
+        turn = running::next(parts, texts, plan, waits, state, turn.asked, turn, bound);
     }
     answer(turn)
 }

@@ -2,7 +2,6 @@
 use Rattle.std.specs.Prelude.{Bool, true, false, cond, List, [], ◌∷◌, ℕ, zero, suc, ◌+◌, ◌-◌, ◌*◌, eqb, ltb, get_or, length, drop}
 use Rattle.paper_expressions.specs.Bytes.{bytes}
 use Rattle.script.specs.declared.lexemes.Number.{Number}
-use Rattle.script.specs.declared.calls.Call.{Call}
 use Rattle.script.specs.declared.calls.Call.TheVariants.{Load, Run, Time, Confirm, Add, Trigger, Row, Rows}
 use Rattle.script.specs.declared.calls.Line.{Line}
 use Rattle.script.specs.Lexemes.{nowhere, after_one, behind_word, digits_at, number_at, text_bytes, kept_long}

@@ -1,5 +1,5 @@
 -- The places behind values as the code finds them: by the tests that it makes.
-use Rattle.std.specs.Prelude.{◌≡◌, refl, Bool, true, false, cond, List, ℕ, zero, suc, ◌+◌, ◌-◌, ◌≤◌, ◌<◌, eqb, ltb, get_or, length, drop}
+use Rattle.std.specs.Prelude.{◌≡◌, refl, Bool, cond, List, ℕ, zero, suc, ◌+◌, ◌-◌, ◌≤◌, ◌<◌, eqb, get_or, length, drop}
 use Rattle.std.proofs.Common.{sym, ap, subst, ◌∙◌, arith, lt-ltb, le-ltb, eq-eqb, ne_eqb}
 use Rattle.paper_expressions.specs.Bytes.{bytes}
 use Rattle.script.specs.declared.lexemes.Number.{Number}
@@ -7,7 +7,7 @@ use Rattle.script.specs.declared.calls.Line.{Line}
 use Rattle.script.specs.declared.calls.Call.{Call}
 use Rattle.script.specs.declared.calls.Call.TheVariants.{Load, Add, Trigger}
 use Rattle.script.specs.Lexemes.{nowhere, after_one, behind_word, number_at, text_bytes, kept_long}
-use Rattle.script.specs.Places.{or_else, behind_text, behind_letter, behind_element, at_element, behind_elements, behind_value, choose, no_line, newline, if_stands, load_by, run_by, add_by, row_by, row_behind, line_by, line_of}
+use Rattle.script.specs.Places.{or_else, behind_text, behind_letter, behind_element, at_element, behind_elements, behind_value, no_line, newline, if_stands, load_by, run_by, add_by, row_by, row_behind, line_by, line_of}
 
 -- ---- the first of two places
 

@@ -52,10 +52,7 @@ fn load(s: &[u8], at: usize) -> Line
     let n = number_at(s, at, NARROW, b'\n');
     let from = n.next;
     let many = n.value as usize;
-    if s.len() <= many {
-        return nothing();
-    }
-    if s.len() - many <= from {
+    if s.len() <= many || s.len() - many <= from {
         return nothing();
     }
     let to = from + many;

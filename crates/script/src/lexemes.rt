@@ -23,10 +23,7 @@ pub struct Number {
 pub fn after(s: &[u8], at: usize) -> usize
     ensures { result ≡ lexemes.after_one s.now at }
 {
-    if at < s.len() {
-        return at + 1;
-    }
-    NOWHERE
+    if at < s.len() { at + 1 } else { NOWHERE }
 }
 
 // The place behind a word that stands here.
@@ -34,16 +31,11 @@ pub fn behind(s: &[u8], at: usize, word: &[u8]) -> usize
     ensures { result ≡ lexemes.behind_word s.now at word.now }
 {
     let mut p = at;
-    let mut i = 0usize;
-    while i < word.len() {
-        if s.len() <= p {
-            return NOWHERE;
-        }
-        if s[p] != word[i] {
+    for b in word {
+        if p >= s.len() || s[p] != *b {
             return NOWHERE;
         }
         p += 1;
-        i += 1;
     }
     p
 }
@@ -51,10 +43,7 @@ pub fn behind(s: &[u8], at: usize, word: &[u8]) -> usize
 fn is_digit(b: u8) -> bool
     ensures { result ≡ lexemes.is_digit b }
 {
-    if b < b'0' {
-        return false;
-    }
-    b <= b'9'
+    b >= b'0' && b <= b'9'
 }
 
 // A number with one digit more.
@@ -67,7 +56,7 @@ fn with_digit(n: u64, b: u8) -> u64
     if GREATEST / 10 < n {
         return BEYOND;
     }
-    n * 10 + (b - b'0') as u64
+    n * 10 + u64::from(b - b'0')
 }
 
 // The digits that stand here, one at least.
@@ -75,27 +64,22 @@ pub fn digits(s: &[u8], at: usize) -> Number
     ensures { result ≡ lexemes.digits_at s.now at }
 {
     let mut n = 0u64;
-    let mut p = at;
-    while p < s.len() {
+    for p in at..s.len() {
         if !is_digit(s[p]) {
             return ended(n, p, at);
         }
         n = with_digit(n, s[p]);
-        p += 1;
     }
-    ended(n, p, at)
+    ended(n, at.max(s.len()), at)
 }
 
 fn ended(n: u64, p: usize, at: usize) -> Number
     ensures { result ≡ lexemes.ended_at n p at }
 {
-    if p == at {
-        return Number {
-            value: n,
-            next: NOWHERE,
-        };
+    Number {
+        value: n,
+        next: if p == at { NOWHERE } else { p },
     }
-    Number { value: n, next: p }
 }
 
 fn none() -> Number
@@ -112,10 +96,7 @@ pub fn number_at(s: &[u8], at: usize, limit: u64, last: u8) -> Number
     ensures { result ≡ lexemes.number_at s.now at limit last }
 {
     let d = digits(s, at);
-    if limit < d.value {
-        return none();
-    }
-    if byte(s, d.next) != last {
+    if d.value > limit || byte(s, d.next) != last {
         return none();
     }
     Number {
@@ -128,53 +109,34 @@ pub fn number_at(s: &[u8], at: usize, limit: u64, last: u8) -> Number
 fn hexadecimal(b: u8) -> u8
     ensures { result ≡ lexemes.hex_value b }
 {
-    if b < b'0' {
-        return 16;
+    match b {
+        b'0'..=b'9' => b - b'0',
+        b'A'..=b'F' => b - b'A' + 10,
+        b'a'..=b'f' => b - b'a' + 10,
+        _ => 16,
     }
-    if b <= b'9' {
-        return b - b'0';
-    }
-    if b < b'A' {
-        return 16;
-    }
-    if b <= b'F' {
-        return b - 55;
-    }
-    if b < b'a' {
-        return 16;
-    }
-    if b <= b'f' {
-        return b - 87;
-    }
-    16
 }
 
 // A byte in two digits; 256 is none.
 fn pair(a: u8, b: u8) -> u16
     ensures { result ≡ lexemes.pair_value a b }
 {
-    let high = hexadecimal(a) as u16;
-    let low = hexadecimal(b) as u16;
-    if 15 < high {
-        return 256;
+    let high = u16::from(hexadecimal(a));
+    let low = u16::from(hexadecimal(b));
+    if high > 15 || low > 15 {
+        256
+    } else {
+        high * 16 + low
     }
-    if 15 < low {
-        return 256;
-    }
-    high * 16 + low
 }
 
 // The byte `i` of the bytes from `from` on.
 fn put(bytes: &mut [u8], from: usize, i: usize, b: u8)
     ensures { bytes.new ≡ set bytes.old (from + i) b }
 {
-    if bytes.len() <= from {
-        return;
+    if from < bytes.len() && i < bytes.len() - from {
+        bytes[from + i] = b;
     }
-    if bytes.len() - from <= i {
-        return;
-    }
-    bytes[from + i] = b;
 }
 
 // A text that was read: how many of its bytes were kept, and the place behind it.
@@ -192,10 +154,7 @@ impl Text {
 fn longer(n: usize) -> usize
     ensures { result ≡ lexemes.one_longer n }
 {
-    if n < Text::KEPT {
-        return n + 1;
-    }
-    n
+    if n < Text::KEPT { n + 1 } else { n }
 }
 
 // The text whose hexadecimal digits stand here, to the bytes from `from` on.

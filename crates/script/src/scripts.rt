@@ -13,8 +13,7 @@ fn behind_line(s: &[u8], at: usize) -> usize
     let mut tags = [0u32; Given::CELLS];
     let mut numbers = [0i64; Given::CELLS];
     let mut bytes = [0u8; Given::BYTES];
-    let l = line_at(s, at, &mut tags, &mut numbers, &mut bytes);
-    l.next
+    line_at(s, at, &mut tags, &mut numbers, &mut bytes).next
 }
 
 // Whether every line is a call.

@@ -85,10 +85,7 @@ fn whole(minus: bool, n: u64) -> i64
     if Given::REAL < n {
         return 0;
     }
-    if minus {
-        return negative(n);
-    }
-    n as i64
+    if minus { negative(n) } else { n as i64 }
 }
 
 // A number with its sign, up to its limit.
@@ -107,7 +104,7 @@ fn unsigned(s: &[u8], at: usize, tag: u32, limit: u64, minus: bool) -> Element
 {
     let d = digits(s, at);
     Element {
-        tag: tag,
+        tag,
         number: whole(minus, d.value),
         next: within(limit, d),
     }
@@ -117,10 +114,7 @@ fn unsigned(s: &[u8], at: usize, tag: u32, limit: u64, minus: bool) -> Element
 fn within(limit: u64, d: Number) -> usize
     ensures { result ≡ up-to limit d }
 {
-    if limit < d.value {
-        return NOWHERE;
-    }
-    d.next
+    if limit < d.value { NOWHERE } else { d.next }
 }
 
 fn nothing() -> Element
@@ -233,15 +227,13 @@ fn list(s: &[u8], at: usize, tags: &mut [u32], numbers: &mut [i64], bytes: &mut 
     ensures { Filled s.now (places_from s.now 20 at) (length (places_from s.now 20 at) + 1) tags.old numbers.old bytes.old tags.new numbers.new bytes.new × (result ≡ behind_elements s.now 20 at) }
 {
     let mut p = at;
-    let mut n = 0usize;
-    while n < Given::ELEMENTS {
+    for n in 0..Given::ELEMENTS {
         if byte(s, p) == b')' {
             return closed(s, p, tags, n);
         }
         p = next_element(s, p, tags, numbers, bytes, n);
-        n += 1;
     }
-    closed(s, p, tags, n)
+    closed(s, p, tags, Given::ELEMENTS)
 }
 
 // A value that is no list.

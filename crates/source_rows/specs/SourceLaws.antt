@@ -1,21 +1,20 @@
 -- What the rows of a source are, by the plan. By the task whose source it is, and by its data item.
-use Rattle.std.specs.Prelude.{ℕ, zero, suc, ◌+◌, ◌<◌, ◌≤◌, ◌≡◌, refl, Bool, List, [], ◌∷◌, get_or, length, take, drop}
+use Rattle.std.specs.Prelude.{ℕ, suc, ◌+◌, ◌<◌, ◌≤◌, ◌≡◌, refl, Bool, List, [], ◌∷◌, get_or, length}
 use Rattle.std.proofs.Common.{arith, sym, ap, subst, ◌∙◌, length-take, length-drop}
-use Rattle.std.proofs.Math.Option.{Option, none, some}
-use Rattle.paper_expressions.specs.View.{Item, At, at_first, at_later}
+use Rattle.std.proofs.Math.Option.{some}
+use Rattle.paper_expressions.specs.View.{At, at_first, at_later}
 use Rattle.paper_guideline.specs.Structure as Structure
 use Structure.{TopLevel, DataItem, Task, data_items}
 use Rattle.paper_guideline.specs.Parts.{Source, sources_of}
-use Rattle.paper_rows.specs.Table.{task, data_item, source, Component, ◌№◌, a_source, Property, class, name, sources, data_item_of, RowValue, class_is, component_is, components_are, text_row, Table, Contains}
+use Rattle.paper_rows.specs.Table.{task, data_item, source, Component, ◌№◌, a_source, class, name, sources, data_item_of, RowValue, class_is, component_is, components_are, text_row, Table, Contains}
 use Rattle.paper_rows.specs.Load as Load
 use Load.{Adds, InstantiateTask, InstantiateSource, attribute_3, numbered}
 use Rattle.paper_rows.proofs.Laws.Lists.{indexed_at, at_below}
-use Rattle.paper_engine.proofs.Laws.Kept.{adds, has, fixed_class, fixed_name, fixed_sources, instantiated, item_view, task_id}
+use Rattle.paper_engine.proofs.Laws.Kept.{adds, has, fixed_class, fixed_name, fixed_sources, item_view, task_id}
 use Rattle.parts.specs.Texts.{text_at_fn}
 use Rattle.truths.specs.Part.{part_of, part_at}
 use Rattle.waits.specs.Twins.{first_at, item_at}
-use Rattle.review.specs.Changes.{tasks_in}
-use Rattle.planned.specs.Planned.{sources_in, item_names}
+use Rattle.planned.specs.Planned.{sources_in}
 use Rattle.holding.specs.Holding.{Holds}
 use Rattle.holding.specs.Shown.{worked, kept, planned}
 

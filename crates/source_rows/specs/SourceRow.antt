@@ -5,14 +5,13 @@ use Rattle.std.proofs.Math.Option.{Option, none, some}
 use Rattle.paper_expressions.specs.Values.{one, text}
 use Rattle.paper_expressions.specs.View.{At}
 use Rattle.paper_guideline.specs.Structure.{TopLevel}
-use Rattle.paper_rows.specs.Table.{data_item, source, ◌№◌, a_source, Property, properties, class, name, data_item_of, mandatory, RowValue, class_is, component_is, text_row, Table}
+use Rattle.paper_rows.specs.Table.{data_item, source, ◌№◌, a_source, Property, properties, class, name, data_item_of, mandatory, RowValue, component_is, text_row, Table}
 use Rattle.paper_rows.specs.Load as Load
 use Load.{Adds}
 use Rattle.paper_rows.proofs.Laws.Ranks.{property_rank}
 use Rattle.paper_engine.proofs.Laws.Kept.{Moving, adds}
-use Rattle.paper_calls.specs.Calls.{shows_value, shows_class, shows_component, shown_value, shown_class, shown_component, row}
+use Rattle.paper_calls.specs.Calls.{shows_value, shows_class, shows_component, shown_value, shown_class, shown_component}
 use Rattle.parts.specs.Texts.{text_at_fn}
-use Rattle.waits.specs.Twins.{item_at}
 use Rattle.planned.specs.Planned.{sources_in, answered}
 use Rattle.holding.specs.Holding.{Holds}
 use Rattle.holding.specs.Shown.{kept, planned}

@@ -13,10 +13,8 @@ fn row(bytes: &[u8], p: usize) -> Marks
     ensures { result ≡ row_of bytes.now p }
 {
     let mut r = [false; Waits::SIDE];
-    let mut j: usize = 0;
-    while j < Waits::SIDE {
-        r[j] = parts::byte(bytes, p + j) == 1;
-        j += 1;
+    for (j, mark) in r.iter_mut().enumerate() {
+        *mark = parts::byte(bytes, p + j) == 1;
     }
     r
 }
@@ -25,10 +23,8 @@ pub fn unpack(bytes: &[u8]) -> WaitTable
     ensures { result ≡ square_of bytes.now }
 {
     let mut w = [[false; Waits::SIDE]; Waits::SIDE];
-    let mut i: usize = 0;
-    while i < Waits::SIDE {
-        w[i] = row(bytes, Waits::SIDE * i);
-        i += 1;
+    for (i, marks) in w.iter_mut().enumerate() {
+        *marks = row(bytes, Waits::SIDE * i);
     }
     w
 }
@@ -37,10 +33,8 @@ pub fn pack(w: WaitTable) -> [u8; Waits::BYTES]
     ensures { Packed w result }
 {
     let mut r = [0u8; Waits::BYTES];
-    let mut k: usize = 0;
-    while k < Waits::BYTES {
-        r[k] = w[k / Waits::SIDE][k % Waits::SIDE] as u8;
-        k += 1;
+    for (k, byte) in r.iter_mut().enumerate() {
+        *byte = u8::from(w[k / Waits::SIDE][k % Waits::SIDE]);
     }
     r
 }

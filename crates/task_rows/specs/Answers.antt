@@ -1,10 +1,10 @@
 -- The answers to the rows of a task: those that move, those that are only there, classes, texts, a parent. By the cases of the code.
-use Rattle.std.specs.Prelude.{ℕ, suc, ◌+◌, ◌-◌, ◌/◌, ◌%◌, ◌≤◌, ◌≡◌, refl, Bool, true, false, cond, List, eqb, get_or}
-use Rattle.std.proofs.Common.{arith, sym, ap, subst, ◌∙◌, ne_eqb}
+use Rattle.std.specs.Prelude.{ℕ, ◌+◌, ◌-◌, ◌≡◌, refl, Bool, true, false, cond, List, eqb, get_or}
+use Rattle.std.proofs.Common.{sym, ap, subst, ◌∙◌, ne_eqb}
 use Rattle.std.proofs.Math.Option.{Option, none, some}
 use Rattle.paper_expressions.proofs.Laws.Search.{no_clash}
 use Rattle.paper_expressions.specs.Values.{one, text}
-use Rattle.paper_rows.specs.Table.{task, ◌№◌, Class, a_plan, an_action, an_enquiry, Property, RowValue, class_is, component_is, text_row}
+use Rattle.paper_rows.specs.Table.{task, ◌№◌, a_plan, an_action, an_enquiry, Property, RowValue, class_is, component_is, text_row}
 use Rattle.paper_calls.specs.Calls as Calls
 use Calls.{no_row, there, shows_value, shows_class, shows_component, ShownAs, shown_value, shown_class, shown_component, row}
 use Rattle.parts.specs.Texts.{text_at_fn}
@@ -15,7 +15,7 @@ use Rattle.values.specs.declared.scalar.Scalar.TheVariants.{Text}
 use Rattle.values.specs.Meaning.{meaning, handle_of}
 use Rattle.row_shown.specs.declared.Shown.TheVariants.{NoRow, There, OfClass, OfComponent}
 use Rattle.row_shown.specs.declared.Row.{Row}
-use Rattle.row_shown.specs.Shown.{Plain, OfScalar, RowShown, absent, present, Shows}
+use Rattle.row_shown.specs.Shown.{Plain, OfScalar, absent, present, Shows}
 use Rattle.row_shown.specs.Cells.{Few, ByCells, plain_published, scalar_published}
 
 pub shows_none : (b : List ℕ) (q : Property) (r : Row) → Plain NoRow r → Shows b q none r

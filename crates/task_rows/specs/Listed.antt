@@ -1,11 +1,11 @@
 -- The properties of tasks that have rows, by their numbers: a row of a task is of one of them. By the clauses of load and the rows that move.
-use Rattle.std.specs.Prelude.{ℕ, suc, ◌+◌, ◌≡◌, refl, Bool, true, false, ◌&&◌, List, [], ◌∷◌, eqb}
+use Rattle.std.specs.Prelude.{ℕ, suc, ◌+◌, ◌≡◌, refl, Bool, true, ◌&&◌, List, [], ◌∷◌, eqb}
 use Rattle.std.proofs.Common.{arith, sym, ap, subst, ◌∙◌, eqb-true}
 use Rattle.std.proofs.Math.Option.{Option, none, some}
 use Rattle.paper_expressions.proofs.Laws.Search.{at_f, at_only}
 use Rattle.paper_expressions.specs.View.{At, at_first, at_later}
 use Rattle.paper_guideline.specs.Structure.{TopLevel}
-use Rattle.paper_rows.specs.Table.{task, ◌№◌, Property, properties, RowValue, Table, Contains}
+use Rattle.paper_rows.specs.Table.{task, ◌№◌, Property, properties, RowValue, Table}
 use Rattle.paper_rows.specs.Load as Load
 use Load.{Adds}
 use Rattle.paper_rows.proofs.Laws.Ranks.{property_rank, property_ranked}

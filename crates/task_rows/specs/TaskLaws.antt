@@ -1,19 +1,19 @@
 -- What the rows of a task are that no call changes, by the plan and by who waits for whom. By what the plan says of every kept table.
-use Rattle.std.specs.Prelude.{ℕ, zero, suc, ◌+◌, ◌-◌, ◌<◌, ◌≤◌, ◌≡◌, refl, Bool, true, false, not, cond, List, ◌∷◌, eqb, pos, get_or}
+use Rattle.std.specs.Prelude.{ℕ, zero, suc, ◌+◌, ◌-◌, ◌<◌, ◌≡◌, refl, Bool, true, false, not, cond, List, eqb, get_or}
 use Rattle.std.proofs.Common.{arith, sym, ap, subst, ◌∙◌, eqb-true, eq-eqb, ne_eqb}
 use Rattle.std.proofs.Math.Option.{Option, none, some}
 use Rattle.paper_expressions.proofs.Laws.Search.{no_clash}
 use Rattle.paper_expressions.specs.Expressions.{Expr}
-use Rattle.paper_expressions.specs.View.{At, at_first}
+use Rattle.paper_expressions.specs.View.{at_first}
 use Rattle.paper_guideline.specs.Structure as Structure
 use Structure.{TopLevel, Task, tasks}
-use Rattle.paper_rows.specs.Table.{task, source, Component, ◌№◌, Class, Property, class, name, antecedent_tasks, precondition, wait_condition, trigger, postcondition, parent_plan, terminate_condition, sources, RowValue, class_is, component_is, components_are, assertion_is, expression_is, text_row, Table, Contains, TaskId, Assigns}
+use Rattle.paper_rows.specs.Table.{task, ◌№◌, Class, Property, class, name, antecedent_tasks, precondition, wait_condition, trigger, postcondition, parent_plan, terminate_condition, sources, RowValue, class_is, component_is, components_are, assertion_is, expression_is, text_row, Table, Contains, TaskId}
 use Rattle.paper_rows.specs.Load as Load
 use Load.{Adds, class_constant, numbered}
-use Rattle.paper_rows.proofs.Laws.Seen.{text_f, same_some}
+use Rattle.paper_rows.proofs.Laws.Seen.{text_f}
 use Rattle.paper_rows.proofs.Laws.Lists.{indexed_at}
 use Rattle.paper_rows.proofs.Laws.Lawful.{defined}
-use Rattle.paper_engine.proofs.Laws.Kept.{Kept, Moving, adds, instantiated, fixed_class, fixed_name, task_view}
+use Rattle.paper_engine.proofs.Laws.Kept.{Moving, adds, instantiated, fixed_class, fixed_name, task_view}
 use Rattle.paper_calls.specs.Calls.{ShownAs, there, there_expression, there_assertion, there_components}
 use Rattle.parts.specs.Part as Parts
 use Rattle.parts.specs.Texts.{text_at_fn}

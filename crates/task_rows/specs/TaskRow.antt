@@ -1,7 +1,7 @@
 -- The answer to reading a row of a task, by the number of the property: of every state that the tables hold. By the properties that are listed.
 use Rattle.std.specs.Prelude.{ℕ, ◌+◌, ◌<◌, ◌≤◌, ◌≡◌, refl, Bool, true, false, ◌⊎◌, List, pos, get_or}
 use Rattle.std.proofs.Common.{arith, sym, ap, subst, ◌∙◌, inl, inr}
-use Rattle.std.proofs.Math.Option.{Option, none, some}
+use Rattle.std.proofs.Math.Option.{Option}
 use Rattle.paper_expressions.specs.View.{At}
 use Rattle.paper_guideline.specs.Structure.{TopLevel}
 use Rattle.paper_rows.specs.Table.{task, ◌№◌, Property, properties, class, name, antecedent_tasks, trigger, parent_plan, confirmatory, terminal, integer_row, RowValue, Table}
@@ -9,11 +9,11 @@ use Rattle.paper_rows.proofs.Laws.Ranks.{property_rank}
 use Rattle.paper_engine.proofs.Laws.Kept as Kept
 use Rattle.state.specs.Layout.{TaskColumn, state_column, trigger_column, confirmed_column, count_column, cycles_column, start_column, in_progress_column, discarded_column, completed_column, procedure_column}
 use Rattle.waits.specs.Booleans.{any_f}
-use Rattle.waits.specs.Twins.{marked, waiting, parent_at, trigger_f}
+use Rattle.waits.specs.Twins.{marked, waiting, trigger_f}
 use Rattle.review.specs.Changes.{tasks_in}
-use Rattle.planned.specs.Planned.{answered, trigger_text}
+use Rattle.planned.specs.Planned.{answered}
 use Rattle.holding.specs.Holding.{Holds}
-use Rattle.holding.specs.Shown.{worked, kept, planned}
+use Rattle.holding.specs.Shown.{kept, planned}
 use Rattle.row_shown.specs.declared.Row.{Row}
 use Rattle.row_shown.specs.declared.Shown.TheVariants.{NoRow}
 use Rattle.row_shown.specs.Shown.{Plain, Shows}

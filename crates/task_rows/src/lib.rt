@@ -24,7 +24,7 @@ fn moving(s: &[u32], p: u16, t: usize) -> Row
     requires { t < 32 }
     ensures { Moving s.now p t result }
 {
-    let q = p as usize;
+    let q = usize::from(p);
     row_shown::by_cells(
         blocks::cell(s, q + t),
         blocks::cell(s, q + Tasks::LIMIT + t),
@@ -35,10 +35,7 @@ fn moving(s: &[u32], p: u16, t: usize) -> Row
 fn there(yes: bool) -> Row
     ensures { ThereIf yes result }
 {
-    if yes {
-        return row_shown::plain(Shown::There);
-    }
-    row_shown::plain(Shown::NoRow)
+    row_shown::plain(if yes { Shown::There } else { Shown::NoRow })
 }
 
 // The class with the number `k` of the plan, by its number of document 01.
@@ -58,30 +55,29 @@ fn text(yes: bool, h: u32) -> Row
     ensures { TextIf yes h result }
 {
     if yes {
-        return row_shown::scalar(Scalar::Text(values::handle_of(h as usize)));
+        row_shown::name(h as usize)
+    } else {
+        row_shown::plain(Shown::NoRow)
     }
-    row_shown::plain(Shown::NoRow)
 }
 
 // The parent, by its number and one.
 fn parent(p: u32) -> Row
     ensures { ParentRow p result }
 {
-    if p == 0 {
-        return row_shown::plain(Shown::NoRow);
+    match p {
+        0 => row_shown::plain(Shown::NoRow),
+        _ => row_shown::plain(Shown::OfComponent(Kind::TASK, p - 1)),
     }
-    row_shown::plain(Shown::OfComponent(Kind::TASK, p - 1))
 }
 
 // Whether one is marked.
 fn any(row: Marks) -> bool
     ensures { result ≡ any_f (marked row) 32 }
 {
-    let mut k: usize = 0;
     let mut found = false;
-    while k < Tasks::LIMIT {
-        found = waits::either(found, row[k]);
-        k += 1;
+    for mark in row {
+        found |= mark;
     }
     found
 }

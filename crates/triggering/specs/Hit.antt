@@ -1,10 +1,10 @@
 -- Which tasks a trigger hits, as a test on the cells, and the cells that sending it writes. By the tasks passed.
 use Rattle.std.specs.Prelude.{ℕ, ◌+◌, ◌-◌, ◌/◌, ◌%◌, ◌<◌, ◌≤◌, ◌≡◌, refl, Bool, true, false, not, cond, ◌&&◌, ◌||◌, List, eqb, ltb, get_or, length}
-use Rattle.std.proofs.Common.{arith, sym, ap, ap₂, subst, ◌∙◌, inl, inr, ext_get_or, below_more, eq-eqb, ne_eqb, lt-ltb, le-ltb, eqb-true}
+use Rattle.std.proofs.Common.{arith, sym, ap, ap₂, subst, ◌∙◌, inl, ext_get_or, below_more, eq-eqb, ne_eqb, lt-ltb, le-ltb, eqb-true}
 use Rattle.std.proofs.Math.Decide.{dec_lt, ℕ_discrete}
 use Rattle.paper_expressions.proofs.Laws.Tests.{contra}
 use Rattle.paper_expressions.proofs.Laws.Search.{sameb, same_reflects, Reflects, of_yes, of_no}
-use Rattle.parts.specs.Texts.{cells, text_at_fn}
+use Rattle.parts.specs.Texts.{text_at_fn}
 use Rattle.blocks.specs.Blocks.{cells_long, cells_at}
 use Rattle.state.specs.Layout.{row_is_fn}
 use Rattle.waits.specs.Twins.{parent_at, trigger_f}

@@ -1,8 +1,8 @@
 -- 8.3.7: the contract of sending a trigger, and that the code's cases meet it. By what the plan says of triggers and parents.
 use Rattle.std.specs.Prelude.{ℕ, zero, suc, ◌+◌, ◌-◌, ◌<◌, ◌≤◌, ◌≡◌, refl, Bool, true, false, not, ◌&&◌, List, eqb, ltb, get_or, length}
-use Rattle.std.proofs.Common.{arith, sym, ap, subst, ◌∙◌, ext_get_or, eqb-true, eq-eqb, ne_eqb, le-ltb, lt-ltb}
-use Rattle.std.proofs.Math.Decide.{dec_lt, ℕ_discrete}
-use Rattle.std.proofs.Math.Option.{Option, none, some}
+use Rattle.std.proofs.Common.{arith, sym, ap, subst, ◌∙◌, ext_get_or, eq-eqb, ne_eqb, le-ltb, lt-ltb}
+use Rattle.std.proofs.Math.Decide.{dec_lt}
+use Rattle.std.proofs.Math.Option.{Option, some}
 use Rattle.paper_expressions.proofs.Laws.Search.{no_clash, sameb, same_reflects, Reflects, true_reflects, of_yes, of_no}
 use Rattle.paper_expressions.specs.Values.{in_progress}
 use Rattle.paper_guideline.specs.Structure.{TopLevel}
@@ -12,12 +12,12 @@ use Rattle.paper_rows.proofs.Laws.Seen.{same_some}
 use Rattle.paper_calls.specs.Calls.{Guideline, loaded, Unready, SmallText, send_trigger, trigger_7, trigger_6, trigger_done, SendTrigger, trigger_1, refuses, done}
 use Rattle.paper_calls.proofs.Laws.CallLaws.{trigger_mild}
 use Rattle.paper_calls.proofs.Laws.TotalLaws.{sends}
-use Rattle.paper_engine.proofs.Laws.Kept.{Kept, adds, task_id}
+use Rattle.paper_engine.proofs.Laws.Kept.{adds, task_id}
 use Rattle.parts.specs.Texts.{cells, text_at_fn}
 use Rattle.blocks.specs.Blocks.{cells_long, cells_at}
 use Rattle.state.specs.Cell.{plain_state}
 use Rattle.state.specs.Layout.{row_is_fn, row_test, state_column, trigger_column}
-use Rattle.waits.specs.Booleans.{Tests, is_and, is_as}
+use Rattle.waits.specs.Booleans.{Tests, is_and}
 use Rattle.waits.specs.Twins.{parent_at, trigger_f}
 use Rattle.planned.specs.Planned.{trigger_text}
 use Rattle.review.specs.Changes.{tasks_in}

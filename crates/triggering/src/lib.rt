@@ -12,28 +12,18 @@ use parts::HANDLE;
 use replying::Reply;
 use state::{Plan, Property, State, Tag};
 
-// Whether the byte `k` of the text that begins at `p` is that of the name.
-fn same_byte(b: &[u8], p: usize, name: &[u8], k: usize) -> bool
-    ensures { result ≡ eqb (get_or b.now (p + k) 0) (get_or name.now k 0) }
-{
-    parts::names::at(b, p, k) == parts::byte(name, k)
-}
-
 // Whether the text with the handle `h` is this one, byte for byte.
 fn same_text(b: &[u8], h: usize, name: &[u8]) -> bool
     ensures { result ≡ sameb (text_at_fn b.now h) name.now }
 {
     let p = h / HANDLE;
-    let n = h % HANDLE;
-    if n != name.len() {
+    if h % HANDLE != name.len() {
         return false;
     }
-    let mut k: usize = 0;
-    while k < n {
-        if !same_byte(b, p, name, k) {
+    for (k, x) in name.iter().enumerate() {
+        if parts::names::at(b, p, k) != *x {
             return false;
         }
-        k += 1;
     }
     true
 }
@@ -46,17 +36,13 @@ fn hit(f: &[u32], b: &[u8], s: &[u32], name: &[u8], t: usize) -> bool
     if parts::number(f, Plan::TRIGGERED + t) != 1 {
         return false;
     }
-    let p = parts::number(f, Plan::PARENT + t);
-    if p == 0 {
-        return false;
+    match parts::number(f, Plan::PARENT + t) {
+        p @ 1..=Tasks::LIMIT => {
+            state::row_is(s, Property::STATE, p - 1, Tag::STATE, State::IN_PROGRESS)
+                && same_text(b, parts::number(f, Plan::TRIGGER + t), name)
+        }
+        _ => false,
     }
-    if Tasks::LIMIT < p {
-        return false;
-    }
-    if state::row_is(s, Property::STATE, p - 1, Tag::STATE, State::IN_PROGRESS) {
-        return same_text(b, parts::number(f, Plan::TRIGGER + t), name);
-    }
-    false
 }
 
 // Sends the trigger to the task `t`.
@@ -73,16 +59,14 @@ fn step(f: &[u32], b: &[u8], s: &mut [u32], name: &[u8], t: usize)
 pub fn trigger(texts: &[u8], plan: &[u32], state: &mut [u32], name: &[u8]) -> Reply
     ensures { Triggers name.now texts.now plan.now state.old state.new result }
 {
-    if replying::ready(state) {
-        if given::small_text(name, 0, name.len()) {
-            let mut t: usize = 0;
-            while t < Tasks::LIMIT {
-                step(plan, texts, state, name, t);
-                t += 1;
-            }
-            return Reply::Done;
-        }
+    if !replying::ready(state) {
+        return Reply::Refused(Refusal::UNREADY);
+    }
+    if !given::small_text(name, 0, name.len()) {
         return Reply::Refused(Refusal::LIMIT);
     }
-    Reply::Refused(Refusal::UNREADY)
+    for t in 0..Tasks::LIMIT {
+        step(plan, texts, state, name, t);
+    }
+    Reply::Done
 }

@@ -2,8 +2,8 @@
 use Rattle.std.specs.Prelude.{ℕ, zero, suc, ◌+◌, ◌-◌, ◌<◌, ◌≤◌, ◌/◌, ◌%◌, ◌≡◌, refl, Bool, true, false, cond, List, [], ◌∷◌, eqb, leb, ℤ, pos, negsuc, nat_abs, get_or, length}
 use Rattle.std.proofs.Common.{arith, not-suc-le-zero, sym, ap, subst, ◌∙◌, ne_eqb, le-leb, leb-true}
 use Rattle.std.proofs.Math.Decide.{dec_lt}
-use Rattle.std.proofs.Math.Option.{Option, none, some}
-use Rattle.paper_expressions.specs.Limits.{integer_limit, real_limit, list_limit}
+use Rattle.std.proofs.Math.Option.{none, some}
+use Rattle.paper_expressions.specs.Limits.{integer_limit, real_limit}
 use Rattle.paper_expressions.proofs.Laws.Search.{no_clash}
 use Rattle.paper_expressions.specs.Values.{Scalar, unknown, truth, integer, real, text, Value, one, sequence}
 use Rattle.paper_expressions.specs.View.{At, at_first, at_later}
@@ -12,7 +12,7 @@ use Rattle.paper_rows.proofs.Laws.Booleans.{is_yes, is_no, is_false}
 use Rattle.paper_calls.specs.Calls.{SmallText, SmallScalar, small_unknown, small_truth, small_integer, small_real, small_text, Small, small_one, small_list}
 use Rattle.parts.specs.Texts.{cells, text_at_fn}
 use Rattle.waits.specs.Booleans.{Tests, is_as}
-use Rattle.value_given.specs.Given.{is_one, handle_given, text_given, element_given, element-at, elements, given}
+use Rattle.value_given.specs.Given.{is_one, handle_given, text_given, element_given, elements, given}
 use Rattle.value_given.specs.Cells.{at_given, listed, same_scalar, one_told, list_told}
 
 abbrev pub WithinBy : List ℕ → List ℤ → List ℕ → Bool → Type 0

@@ -1,15 +1,15 @@
 -- What the code reads of a cell that is lent, and the elements of a list one by one. By the cells.
 use Prim.Native.Nat.{ℕ, zero, suc, ◌+◌, ◌-◌, ◌<◌, ◌≤◌}
 use native.Mathlib.Omega.{arith}
-use Rattle.std.proofs.Common.{not-suc-le-zero, sym, ap₂, subst, ◌∙◌, eq-eqb, ne_eqb, lt-ltb, le-ltb}
-use Rattle.std.specs.Prelude.{◌≡◌, refl, Bool, true, false, cond, ◌&&◌, List, [], ◌∷◌, eqb, ltb, ℤ, pos, negsuc, nat_abs, get_or, length}
+use Rattle.std.proofs.Common.{not-suc-le-zero, sym, ap₂, subst, ◌∙◌, lt-ltb, le-ltb}
+use Rattle.std.specs.Prelude.{◌≡◌, refl, Bool, true, false, cond, List, [], ◌∷◌, ltb, ℤ, pos, negsuc, nat_abs, get_or, length}
 use Rattle.std.proofs.Math.Path.{ap}
 use Rattle.std.proofs.Math.Option.{Option, none, some}
 use Rattle.paper_expressions.proofs.Laws.Search.{no_clash}
 use Rattle.paper_expressions.proofs.Laws.Tests.{contra}
 use Rattle.paper_expressions.specs.Values.{Scalar, unknown, Value, one, sequence}
 use Rattle.std.specs.Int.Signed.{lt_z, non_neg}
-use Rattle.value_given.specs.Given.{is_one, handle_given, element_given, lent_f, element-at, elements, before, as_one, as-list, shaped, given}
+use Rattle.value_given.specs.Given.{handle_given, element_given, lent_f, element-at, elements, before, as_one, as-list, shaped, given}
 
 -- ---- a cell
 

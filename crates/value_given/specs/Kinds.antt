@@ -8,13 +8,13 @@ use Rattle.paper_expressions.proofs.Laws.Search.{no_clash}
 use Rattle.paper_expressions.proofs.Laws.Tests.{contra}
 use Rattle.paper_expressions.proofs.Laws.Soundness.{of_one, of_texts, of_integers, of_reals, no_text_list, no_integer_list, no_real_list}
 use Rattle.paper_expressions.specs.Values.{Scalar, unknown, truth, integer, real, text, Value, one, sequence}
-use Rattle.paper_expressions.specs.Types.{Ty, Text, Integer, Real, SetofText, SetofInteger, SetofReal, Declared, a_text, an_integer, a_boolean, a_datetime, a_date, a_time, a_real, a_setof_text, a_setof_integer, a_setof_real, inferred, OfScalar, unknown_of_any, truth_of, integer-of, integer_counts_as_real, real_of, text_of, Element, element_text, element_integer, element_real, EachOf, each_none, each_more, Of, of_scalar, of_list}
+use Rattle.paper_expressions.specs.Types.{Ty, Text, Integer, Real, SetofText, SetofInteger, SetofReal, Declared, a_text, an_integer, a_boolean, a_datetime, a_date, a_time, a_real, a_setof_text, a_setof_integer, a_setof_real, inferred, OfScalar, unknown_of_any, integer-of, integer_counts_as_real, real_of, text_of, Element, element_text, element_integer, element_real, EachOf, each_none, each_more, Of, of_scalar, of_list}
 use Rattle.parts.specs.Codes.{declared_code}
 use Rattle.parts.specs.Texts.{text_at_fn}
 use Rattle.waits.specs.Booleans.{Tests, is_as}
 use Rattle.paper_rows.proofs.Laws.Booleans.{is_yes, is_no}
-use Rattle.value_given.specs.Given.{is_one, text_given, element_given, lent_f, element-at, elements, as_one, as-list, given}
-use Rattle.value_given.specs.Cells.{Listed, listed, elements_if, same_scalar, given_one, given_list, one_told, list_told}
+use Rattle.value_given.specs.Given.{is_one, text_given, element_given, lent_f, element-at, as_one, as-list, given}
+use Rattle.value_given.specs.Cells.{listed, elements_if, same_scalar, given_one, given_list, one_told, list_told}
 
 -- what is given is unknown or a value of the declared type d
 abbrev pub Typed : List ℕ → List ℤ → List ℕ → Declared → Type 0

@@ -1,7 +1,7 @@
 -- The value that the code makes means the one that is given, where that is within the limits. By the cells, one by one.
-use Rattle.std.specs.Prelude.{ℕ, zero, suc, ◌+◌, ◌-◌, ◌<◌, ◌≤◌, ◌≡◌, refl, Bool, true, false, cond, List, [], ◌∷◌, ◌++◌, map, eqb, ℤ, pos, negsuc, nat_abs, get_or, length, take}
+use Rattle.std.specs.Prelude.{ℕ, suc, ◌+◌, ◌-◌, ◌<◌, ◌≤◌, ◌≡◌, Bool, true, false, cond, List, [], ◌∷◌, ◌++◌, map, eqb, ℤ, pos, negsuc, nat_abs, get_or, take}
 use Rattle.std.proofs.Common.{arith, sym, ap, ap₂, subst, ◌∙◌, take-suc, take_all, le-leb}
-use Rattle.std.proofs.Math.Option.{Option, none, some}
+use Rattle.std.proofs.Math.Option.{none, some}
 use Rattle.paper_expressions.specs.Limits.{integer_limit, real_limit}
 use Rattle.paper_expressions.proofs.Laws.Search.{no_clash}
 use Rattle.paper_expressions.specs.Values as paper

@@ -1,5 +1,5 @@
 -- Worked: what some cells and bytes give, by computing.
-use Rattle.std.specs.Prelude.{◌≡◌, refl, true, false, List, [], ◌∷◌, pos, negsuc}
+use Rattle.std.specs.Prelude.{◌≡◌, refl, true, false, [], ◌∷◌, pos, negsuc}
 use Rattle.std.proofs.Math.Option.{none, some}
 use Rattle.paper_expressions.specs.Values.{unknown, truth, integer, real, text, one, sequence}
 use Rattle.value_given.specs.Given.{given}

@@ -30,13 +30,10 @@ fn is_small(bytes: &[u8], tag: u32, w: Wide) -> bool
 fn all_small(tags: &[u32], nums: &[i64], bytes: &[u8], shape: u32) -> bool
     ensures { AllSmall tags.now nums.now bytes.now shape result }
 {
-    let mut i: u32 = 1;
-    while i < shape {
-        let p = i as usize;
-        if !is_small(bytes, parts::word(tags, p), number(nums, p)) {
+    for i in 1..shape as usize {
+        if !is_small(bytes, parts::word(tags, i), number(nums, i)) {
             return false;
         }
-        i += 1;
     }
     true
 }
@@ -49,8 +46,5 @@ pub fn within(tags: &[u32], nums: &[i64], bytes: &[u8]) -> bool
     if shape == 0 {
         return is_small(bytes, parts::word(tags, 1), number(nums, 1));
     }
-    if Values::CELLS < shape as usize {
-        return false;
-    }
-    all_small(tags, nums, bytes, shape)
+    shape as usize <= Values::CELLS && all_small(tags, nums, bytes, shape)
 }

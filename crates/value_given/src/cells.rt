@@ -9,48 +9,36 @@ use numbers::Wide;
 pub fn lent(tags: &[u32], nums: &[i64], i: usize) -> bool
     ensures { result ≡ lent_f tags.now nums.now i }
 {
-    if i < tags.len() {
-        return i < nums.len();
-    }
-    false
+    i < tags.len() && i < nums.len()
 }
 
 // The number of a cell; 0 past the end.
 pub fn number(nums: &[i64], i: usize) -> Wide
     ensures { result.z ≡ get_or nums.now i (pos 0) }
 {
-    if i < nums.len() {
-        return Wide { z: nums[i] };
+    match nums.get(i) {
+        Some(z) => Wide { z: *z },
+        None => Wide { z: 0 },
     }
-    Wide { z: 0 }
 }
 
 // Whether a number is 1.
 pub fn is_one(w: Wide) -> bool
     ensures { result ≡ is_one w.z }
 {
-    let z = w.z;
-    z == 1
+    w.z == 1
 }
 
 // Whether a number is a handle.
 pub fn is_natural(w: Wide) -> bool
     ensures { result ≡ non_neg w.z }
 {
-    let z = w.z;
-    if z < 0 {
-        return false;
-    }
-    true
+    w.z >= 0
 }
 
 // The handle that a number is; 0 for a negative one.
 pub fn natural(w: Wide) -> usize
     ensures { result ≡ handle_given w.z }
 {
-    let z = w.z;
-    if z < 0 {
-        return 0;
-    }
-    z as usize
+    if w.z < 0 { 0 } else { w.z as usize }
 }

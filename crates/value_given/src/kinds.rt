@@ -14,13 +14,9 @@ fn of_one(k: u32) -> u32
     ensures { result ≡ one_kind k }
 {
     match k {
-        Declared::TEXT => Declared::TEXT,
+        Declared::TEXT | Declared::BOOLEAN => Declared::TEXT,
         Declared::INTEGER => Declared::INTEGER,
-        Declared::BOOLEAN => Declared::TEXT,
-        Declared::DATETIME => Declared::REAL,
-        Declared::DATE => Declared::REAL,
-        Declared::TIME => Declared::REAL,
-        Declared::REAL => Declared::REAL,
+        Declared::DATETIME | Declared::DATE | Declared::TIME | Declared::REAL => Declared::REAL,
         _ => Declared::NONE,
     }
 }
@@ -37,35 +33,16 @@ fn of_each(k: u32) -> u32
     }
 }
 
-// An integer counts as a real.
-fn takes_integer(e: u32) -> bool
-    ensures { result ≡ (eqb e 2 || eqb e 7) }
-{
-    if e == Declared::INTEGER {
-        return true;
-    }
-    e == Declared::REAL
-}
-
-fn takes_text(e: u32, w: Wide) -> bool
-    ensures { result ≡ (eqb e 1 && non_neg w.z) }
-{
-    if e == Declared::TEXT {
-        return is_natural(w);
-    }
-    false
-}
-
-// Whether an element with this tag and number is of the kind `e`.
+// Whether an element with this tag and number is of the kind `e`: an integer counts as a real.
 fn is_kind(e: u32, tag: u32, w: Wide) -> bool
     ensures { result ≡ kind_f e tag w.z }
 {
     match tag {
         Tag::UNKNOWN => true,
         Tag::TRUTH => false,
-        Tag::INTEGER => takes_integer(e),
+        Tag::INTEGER => e == Declared::INTEGER || e == Declared::REAL,
         Tag::REAL => e == Declared::REAL,
-        Tag::TEXT => takes_text(e, w),
+        Tag::TEXT => e == Declared::TEXT && is_natural(w),
         _ => false,
     }
 }
@@ -74,22 +51,17 @@ fn is_kind(e: u32, tag: u32, w: Wide) -> bool
 fn is_of(tags: &[u32], nums: &[i64], e: u32, i: usize) -> bool
     ensures { result ≡ of_f tags.now nums.now e i }
 {
-    if lent(tags, nums, i) {
-        return is_kind(e, parts::word(tags, i), number(nums, i));
-    }
-    false
+    lent(tags, nums, i) && is_kind(e, parts::word(tags, i), number(nums, i))
 }
 
 // Whether each element of a list of this shape is of the kind `e`.
 fn all_of(tags: &[u32], nums: &[i64], e: u32, shape: u32) -> bool
     ensures { Tests result ((j : ℕ) → j < shape - 1 → of_f tags.now nums.now e (1 + j) ≡ true) }
 {
-    let mut i: u32 = 1;
-    while i < shape {
-        if !is_of(tags, nums, e, i as usize) {
+    for i in 1..shape as usize {
+        if !is_of(tags, nums, e, i) {
             return false;
         }
-        i += 1;
     }
     true
 }
@@ -103,8 +75,5 @@ pub fn typed(tags: &[u32], nums: &[i64], k: u32) -> bool
         return is_of(tags, nums, of_one(k), 1);
     }
     let e = of_each(k);
-    if e == Declared::NONE {
-        return false;
-    }
-    all_of(tags, nums, e, shape)
+    e != Declared::NONE && all_of(tags, nums, e, shape)
 }

@@ -34,10 +34,8 @@ fn listed(tags: &[u32], nums: &[i64], shape: u32) -> List
     ensures { ListMade tags.now nums.now shape result }
 {
     let mut l = values::empty();
-    let mut i: u32 = 1;
-    while i < shape {
-        l = values::push(l, at(tags, nums, i as usize));
-        i += 1;
+    for i in 1..shape as usize {
+        l = values::push(l, at(tags, nums, i));
     }
     l
 }

@@ -1,7 +1,6 @@
 -- `add`: its number, its value, and the end of its line.
 use Rattle.script.specs.PlacesLaws.{add_is}
 use Rattle.script.specs.ValuesLaws.{put_behind}
-use borrow.Author.Rules.{rules}
 use Rattle.script.proofs.calls.add.Goals as goal
 
 pub returns : goal.returns

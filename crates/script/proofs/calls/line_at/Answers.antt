@@ -5,7 +5,6 @@ use native.Mathlib.Omega.{arith}
 use Rattle.script.specs.Places.{line_by, add_line, confirm_line, load_line}
 use Rattle.script.specs.PlacesLaws.{by_first, no_first}
 use Rattle.script.specs.ValuesLaws.{line_adds, line_triggers, line_gives_none}
-use borrow.Author.Rules.{rules}
 use Rattle.script.proofs.calls.line_at.Goals as goal
 
 pub returns-in-97 : goal.returns-in-97

@@ -1,7 +1,6 @@
 -- `rows`: the end of its line.
 use Rattle.script.specs.declared.calls.Call.TheVariants.{Rows}
 use Rattle.script.specs.PlacesLaws.{ends_at}
-use borrow.Author.Rules.{rules}
 use Rattle.script.proofs.calls.rows.Goals as goal
 
 pub returns : goal.returns

@@ -5,7 +5,6 @@ use Rattle.paper_expressions.specs.Bytes.{bytes}
 use Rattle.script.specs.Lexemes.{behind_word}
 use Rattle.script.specs.Places.{run_line, row_or_rows}
 use Rattle.script.specs.PlacesLaws.{stands, stands_not}
-use borrow.Author.Rules.{rules}
 use Rattle.script.proofs.calls.run_or_row.Goals as goal
 
 pub returns-then-p : goal.returns-then-p

@@ -7,7 +7,6 @@ use Rattle.script.specs.Places.{time_line, trigger_line}
 use Rattle.script.specs.PlacesLaws.{stands, stands_not}
 use Rattle.script.specs.Values.{trigger_in}
 use Rattle.script.specs.ValuesLaws.{when_nowhere, when_stands}
-use borrow.Author.Rules.{rules}
 use Rattle.script.proofs.calls.time_or_trigger.Goals as goal
 
 pub returns-then-p : goal.returns-then-p

@@ -8,7 +8,6 @@ use Rattle.script.specs.Places.{newline, behind_text}
 use Rattle.script.specs.PlacesLaws.{line, stands, stands_not, ends_at, trigger_is}
 use Rattle.script.specs.Values.{text_in}
 use Rattle.script.specs.ValuesLaws.{when_nowhere, when_stands}
-use borrow.Author.Rules.{rules}
 use Rattle.script.proofs.calls.trigger.Goals as goal
 
 pub returns-then-none : goal.returns-then-none

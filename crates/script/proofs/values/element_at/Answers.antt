@@ -2,7 +2,6 @@
 use mathlib.Core.Path.{refl}
 use Rattle.script.specs.ValuesLaws.{read_plain, read_text, read_none}
 use native.Mathlib.Omega.{arith}
-use borrow.Author.Rules.{rules}
 use Rattle.script.proofs.values.element_at.Goals as goal
 
 pub returns-in-117 : goal.returns-in-117

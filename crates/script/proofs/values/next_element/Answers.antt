@@ -1,7 +1,6 @@
 -- `next_element`: by the test whether it is the first.
 use Rattle.script.specs.PlacesLaws.{element_first, element_next}
 use Rattle.script.specs.ValuesLaws.{put_first, put_next}
-use borrow.Author.Rules.{rules}
 use Rattle.script.proofs.values.next_element.Goals as goal
 
 pub returns-then-i-eq0 : goal.returns-then-i-eq0

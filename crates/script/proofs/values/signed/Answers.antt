@@ -8,7 +8,6 @@ use Rattle.script.specs.Places.{up-to}
 use Rattle.script.specs.PlacesLaws.{first_place, second_place}
 use Rattle.script.specs.Values.{with_minus}
 use Rattle.script.specs.ValuesLaws.{when_nowhere, when_stands}
-use borrow.Author.Rules.{rules}
 use Rattle.script.proofs.values.signed.Goals as goal
 
 pub returns-then-p : goal.returns-then-p

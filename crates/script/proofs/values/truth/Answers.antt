@@ -5,7 +5,6 @@ use Rattle.paper_expressions.specs.Bytes.{bytes}
 use Rattle.script.specs.Lexemes.{behind_word}
 use Rattle.script.specs.PlacesLaws.{first_place, second_place}
 use Rattle.script.specs.ValuesLaws.{when_nowhere, when_stands}
-use borrow.Author.Rules.{rules}
 use Rattle.script.proofs.values.truth.Goals as goal
 
 pub returns-then-p : goal.returns-then-p

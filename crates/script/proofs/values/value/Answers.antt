@@ -1,7 +1,6 @@
 -- `value`: by the test whether a list stands there.
 use Rattle.script.specs.PlacesLaws.{value_one, value_list}
 use Rattle.script.specs.ValuesLaws.{value_single, value_listed}
-use borrow.Author.Rules.{rules}
 use Rattle.script.proofs.values.value.Goals as goal
 
 pub returns-then-p : goal.returns-then-p

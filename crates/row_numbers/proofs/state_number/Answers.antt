@@ -1,0 +1,8 @@
+-- `state_number`: by the law of its list.
+use mathlib.Core.Path.{◌∙◌}
+use Rattle.std.proofs.Common.{rules}
+use Rattle.row_numbers.specs.OneOf.{state_is}
+use Rattle.row_numbers.proofs.state_number.Goals as goal
+
+pub returns : goal.returns
+returns c = c.one_of.ensures ∙ state_is c.args.n
