@@ -1,6 +1,7 @@
 -- The name of a token as the code makes it; and what a search of a list says of it.
-use Rattle.std.specs.Prelude.{ℕ, zero, suc, ◌+◌, ◌-◌, ◌≤◌, ◌<◌, ◌≡◌, refl, Bool, true, false, cond, not, ◌||◌, List, [], ◌∷◌, ◌++◌, eqb, leb, length, get_or, take, drop}
+use Rattle.std.specs.Prelude.{ℕ, zero, suc, ◌+◌, ◌≤◌, ◌<◌, ◌≡◌, refl, Bool, true, false, cond, not, ◌||◌, List, [], ◌∷◌, ◌++◌, Option, Some, None, eqb, leb, length, get_or, take, drop}
 use Rattle.std.proofs.Common.{arith, sym, ap, ◌∙◌, length-append, length-drop, length-take, take_all, take_at, le-leb, eq-eqb, ne_eqb}
+use Rattle.std.specs.Option.{is_some}
 use Rattle.std.proofs.Math.Decide.{dec_lt}
 use Rattle.std.proofs.Math.Seq.{take-length}
 use Rattle.std.proofs.lemmas.Bool.{lt-leb}
@@ -10,7 +11,7 @@ use Rattle.paper_tokens.specs.Lexical.{inner}
 use Rattle.parts.specs.Texts.{cells}
 use Rattle.sentences.specs.Alike.{fitting, name_at, Folded, like, first_like}
 use Rattle.sentences.specs.SlipsLaws.{name_long, folded_long, cells_long, like_front}
-use Rattle.explain_rows.specs.Firsts.{First}
+use Rattle.explain_rows.specs.Firsts.{First, FirstOf}
 use Rattle.bare_tokens.specs.declared.Counts.{Counts}
 use Rattle.bare_names.specs.Told.{spelling, token_name, Named, among, met_at, is_new, told_by}
 
@@ -119,6 +120,10 @@ module _ {f : ℕ → Bool} {to r : ℕ} (w : First f to r) where
       go : Dec (r < to) → eqb r to ≡ not (among f to)
       go (yes l) = ne_eqb r to (λ e. omega arith) ∙ sym (ap not (among_yes l))
       go (no l) = let h = w.within in eq-eqb r to (omega arith) ∙ sym (ap not (among_no (omega arith)))
+
+pub among_found : (f : ℕ → Bool) (to : ℕ) (r : Option ℕ) → FirstOf f to r → among f to ≡ is_some r
+among_found f to None w = among_no w (omega arith)
+among_found f to (Some i) w = among_yes w.1 w.0
 
 -- ---- one name
 

@@ -1,5 +1,5 @@
 -- One number more in a lent list, by whether there is room; and what the numbers that pass are: exactly those, each once, in their order.
-use Prim.Native.Nat.{ℕ, zero, suc, ◌+◌, ◌-◌, ◌≤◌, ◌<◌}
+use Prim.Native.Nat.{ℕ, zero, suc, ◌+◌, ◌≤◌, ◌<◌}
 use Rattle.std.proofs.Common.{arith, add-one, sym, ap, ◌∙◌, length-append, length-take, length-drop, take_all, drop-cons}
 use Rattle.std.proofs.Math.Decide.{dec_lt}
 use Rattle.std.specs.Prelude.{◌≡◌, refl, Bool, true, false, cond, ◌⊎◌, get_or, take, drop, set}

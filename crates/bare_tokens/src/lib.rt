@@ -10,63 +10,49 @@ ghost use Rattle.bare_tokens.specs.Listed as listed;
 use leaves::cell;
 use parts::byte;
 use terminals::Terminal;
-use within::{NONE, Within, before, behind, on};
+use within::{NONE, Within, before};
 
 // The terminal behind the token i.
 fn after(kinds: &[u8], i: usize) -> u8
     ensures { result ≡ bare.after kinds.now i }
 {
-    if kinds.len() <= i {
-        return 0;
-    }
-    byte(kinds, i + 1)
+    byte(kinds, i.saturating_add(1))
 }
 
 // Whether a name behind this terminal may be assigned to.
 fn starts(last: u8) -> bool
     ensures { result ≡ bare.starts last }
 {
-    match last {
-        Terminal::DOUBLE_COLON | Terminal::AND | Terminal::LEFT_PARENTHESIS => true,
-        _ => false,
-    }
+    matches!(
+        last,
+        Terminal::DOUBLE_COLON | Terminal::AND | Terminal::LEFT_PARENTHESIS
+    )
 }
 
 // Whether a name between these terminals is assigned to.
 fn is_target(w: Within, last: u8, next: u8) -> bool
     ensures { result ≡ bare.is_target w last next }
 {
-    if w.word != Terminal::POSTCONDITION {
-        return false;
-    }
-    if w.depth != w.base {
-        return false;
-    }
-    if next != Terminal::EQUALS {
-        return false;
-    }
-    starts(last)
+    w.word == Terminal::POSTCONDITION
+        && w.depth == w.base
+        && next == Terminal::EQUALS
+        && starts(last)
 }
 
 fn is_atom(k: u8) -> bool
     ensures { result ≡ bare.is_atom k }
 {
-    match k {
-        Terminal::OTHER_ATOM => true,
-        Terminal::YES_OR_NO => true,
-        Terminal::DATA_TYPE => true,
-        _ => false,
-    }
+    matches!(
+        k,
+        Terminal::OTHER_ATOM | Terminal::YES_OR_NO | Terminal::DATA_TYPE
+    )
 }
 
 // Whether the token i is an atom without quotes.
 fn is_plain(text: &[u8], kinds: &[u8], places: &[usize], i: usize) -> bool
     ensures { result ≡ bare.is_plain text.now kinds.now places.now i }
 {
-    if !is_atom(byte(kinds, i)) {
-        return false;
-    }
-    byte(text, cell(places, i)) != b'\''
+    is_atom(byte(kinds, i)) && byte(text, cell(places, i)) != b'\''
 }
 
 // Whether what stands at the token i is neither a functor nor assigned to.
@@ -74,44 +60,30 @@ fn is_read(kinds: &[u8], i: usize, w: Within) -> bool
     ensures { result ≡ bare.is_read kinds.now i w }
 {
     let next = after(kinds, i);
-    if next == Terminal::LEFT_PARENTHESIS {
-        return false;
-    }
-    !is_target(w, before(kinds, i), next)
+    next != Terminal::LEFT_PARENTHESIS && !is_target(w, before(kinds, i), next)
 }
 
 fn is_bare(text: &[u8], kinds: &[u8], places: &[usize], i: usize, w: Within) -> bool
     ensures { result ≡ bare.is_bare text.now kinds.now places.now i w }
 {
-    if w.word == NONE {
-        return false;
-    }
-    if !is_plain(text, kinds, places, i) {
-        return false;
-    }
-    is_read(kinds, i, w)
+    w.word != NONE && is_plain(text, kinds, places, i) && is_read(kinds, i, w)
 }
 
 // The word that declares the token i as a name, two tokens before it.
 fn declaring(kinds: &[u8], i: usize) -> u8
     ensures { result ≡ bare.declaring kinds.now i }
 {
-    if i == 0 {
-        return NONE;
+    if before(kinds, i) == Terminal::DOUBLE_COLON {
+        before(kinds, i - 1)
+    } else {
+        NONE
     }
-    if before(kinds, i) != Terminal::DOUBLE_COLON {
-        return NONE;
-    }
-    before(kinds, i - 1)
 }
 
 fn is_task(k: u8) -> bool
     ensures { result ≡ bare.is_task k }
 {
-    match k {
-        Terminal::PLAN | Terminal::ACTION | Terminal::ENQUIRY => true,
-        _ => false,
-    }
+    matches!(k, Terminal::PLAN | Terminal::ACTION | Terminal::ENQUIRY)
 }
 
 // How many tokens there are of each sort.
@@ -126,10 +98,7 @@ pub struct Counts {
 fn put(list: &mut [usize], n: usize, one: bool, i: usize) -> usize
     ensures { listed.Put list.old n one i list.new result }
 {
-    if !one {
-        return n;
-    }
-    if list.len() <= n {
+    if !one || list.len() <= n {
         return n;
     }
     list[n] = i;
@@ -148,22 +117,18 @@ pub fn collect(
 ) -> Counts
     ensures { bare.Collected text.now kinds.now places.now n items.old tasks.old names.old items.new tasks.new names.new result }
 {
-    let mut a = 0usize;
-    let mut b = 0usize;
-    let mut c = 0usize;
-    let mut w = behind(NONE);
-    let mut i = 0usize;
-    while i < n {
-        w = on(w, byte(kinds, i), before(kinds, i));
+    let mut counts = Counts {
+        items: 0,
+        tasks: 0,
+        bare: 0,
+    };
+    let mut w = Within::behind(NONE);
+    for i in 0..n {
+        w = w.on(byte(kinds, i), before(kinds, i));
         let k = declaring(kinds, i);
-        a = put(items, a, k == Terminal::DATA, i);
-        b = put(tasks, b, is_task(k), i);
-        c = put(names, c, is_bare(text, kinds, places, i, w), i);
-        i += 1;
+        counts.items = put(items, counts.items, k == Terminal::DATA, i);
+        counts.tasks = put(tasks, counts.tasks, is_task(k), i);
+        counts.bare = put(names, counts.bare, is_bare(text, kinds, places, i, w), i);
     }
-    Counts {
-        items: a,
-        tasks: b,
-        bare: c,
-    }
+    counts
 }

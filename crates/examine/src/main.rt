@@ -1,8 +1,6 @@
 // Examines one guideline: reads any bytes from standard input and writes `refused N P` or `loads`; then, for people, of a refusal the line and what is wrong, and of a guideline that loads the names that are read as text.
 #![tactic(auto)]
 
-ghost use Rattle.std.specs.Prelude.{◌≤◌, length};
-
 use answering::Verdict;
 use bare_names::told;
 use limits::Guideline;
@@ -25,15 +23,8 @@ fn examine(text: &[u8], s: Seen) {
     }
 }
 
-fn examine_first(buffer: &[u8], n: usize, s: Seen)
-    requires { n ≤ length buffer.now }
-{
-    examine(&buffer[..n], s);
-}
-
 fn main() {
     let mut kept = io::large_buffer();
     let t = told_refusal::take(STDIN_FILENO, &mut kept);
-    let s = t.seen;
-    examine_first(&kept, t.kept, s);
+    examine(&kept[..t.kept], t.seen);
 }

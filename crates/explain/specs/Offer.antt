@@ -1,17 +1,15 @@
 -- What could stand at a token of a guideline, and that a reader's answers tell it.
-use Rattle.std.specs.Prelude.{ℕ, ◌+◌, ◌-◌, ◌≤◌, ◌<◌, ◌≡◌, refl, Bool, true, false, ◌⊎◌, List, [], ◌∷◌, ◌++◌, length, take, drop, get_or, set}
+use Rattle.std.specs.Prelude.{ℕ, ◌+◌, ◌≤◌, ◌<◌, ◌≡◌, Bool, true, false, ◌⊎◌, List, [], ◌∷◌, ◌++◌, length, take, drop, get_or, set}
 use Rattle.std.proofs.Common.{arith, sym, ap, subst, ◌∙◌, ⊎_elim, append-nil, append_assoc, take-append-drop, take-suc, take-suc-set, add-one}
 use Rattle.std.proofs.Math.Seq.{take-length}
 use Rattle.paper_expressions.proofs.Laws.Tests.{contra}
 use Rattle.paper_tokens.specs.Tokens.{‘other-atom’, ‘yes-or-no’, ‘data-type’}
 use Rattle.paper_grammar.proofs.Laws.Ll.{is_in}
 use Rattle.paper_guideline.specs.LeftOut.{left_out_words}
-use Rattle.grammar.specs.declared.Answer.{Answer}
 use Rattle.paper_grammar.specs.Nonterminals.{⟨process⟩}
-use Rattle.paper_grammar.specs.Sentence.{SentenceOf, Guideline, Begins, FirstBad}
-use Rattle.paper_guideline.specs.Limits.{token_limit}
+use Rattle.paper_grammar.specs.Sentence.{SentenceOf, Guideline, Begins}
 use Rattle.grammar.specs.declared.Start.TheVariants.{Process}
-use Rattle.grammar.specs.declared.Answer.TheVariants.{Accepted, Refused, Unread}
+use Rattle.grammar.specs.declared.Answer.TheVariants.{Accepted, Refused}
 use Rattle.grammar.specs.Reply.{Verdict}
 
 -- the answer r is yes exactly if P holds

@@ -2,13 +2,13 @@
 use Rattle.std.specs.Prelude.{ℕ, zero, suc, ◌+◌, ◌-◌, ◌≤◌, ◌<◌, ◌≡◌, Bool, true, false, cond, ◌&&◌, ◌||◌, ◌⊎◌, eqb, leb, length, take, drop, get_or}
 use Rattle.std.proofs.Common.{le_of_suc-le-suc, not-suc-le-zero, arith, sym, subst, ◌∙◌, inl, inr, ⊎_elim, length-append, length-drop, drop-cons, get_or-drop, eqb-true}
 use Rattle.std.proofs.Math.Path.{refl, ap}
-use mathlib.Core.List.{List, [], ◌∷◌, ◌++◌, append_assoc}
+use mathlib.Core.List.{List, [], ◌∷◌, ◌++◌}
 use Rattle.std.proofs.Math.Seq.{take-append-add}
 use Rattle.std.proofs.lemmas.Bool.{eqb-false}
 use Rattle.paper_expressions.proofs.Laws.Tests.{two, contra, or_cases}
 use Rattle.paper_tokens.specs.Kinds.{other, letter, power, digit, minus, point, quote, backslash, blank, slash, star, high, double_quote, kind_of}
-use Rattle.paper_tokens.specs.Forms.{any, one, ◌then◌, ◌or◌, no, One, Then, Match, is_in}
-use Rattle.paper_tokens.specs.Lexical.{Rule, atom, double_quoted_string, bare_atom, enclosed, quoted_atom, string_form, Matches, part, Fits, Stuck}
+use Rattle.paper_tokens.specs.Forms.{any, one, ◌then◌, ◌or◌, no, Match, is_in}
+use Rattle.paper_tokens.specs.Lexical.{Rule, atom, double_quoted_string, enclosed, quoted_atom, string_form, Matches, part, Fits, Stuck}
 
 -- no quote behind the place p closes the one there
 abbrev pub Unclosed : List ℕ → ℕ → Type 0

@@ -1,8 +1,8 @@
 -- Each terminal as a person writes it, the table that holds the spellings, and that an entry of the table is what it should be.
-use Rattle.std.specs.Prelude.{ℕ, zero, suc, ◌+◌, ◌*◌, ◌-◌, ◌≤◌, ◌<◌, ◌≡◌, refl, Bool, true, false, cond, ◌||◌, ◌&&◌, List, [], ◌∷◌, ◌++◌, map, eqb, leb, ltb, length, get_or}
+use Rattle.std.specs.Prelude.{ℕ, zero, suc, ◌+◌, ◌*◌, ◌-◌, ◌≤◌, ◌<◌, ◌≡◌, refl, Bool, true, false, List, [], ◌∷◌, ◌++◌, map, leb, ltb, length, get_or}
 use Prim.Native.String.{String}
-use Rattle.std.proofs.Common.{arith, le_of_suc-le-suc, not-suc-le-zero, sym, ap, subst, ◌∙◌, ⊎_elim, get_or-append-add, leb-true, ltb-true, ltb-false, ne_eqb}
-use Rattle.std.proofs.Math.ListN.{get_or-append, get_or-map}
+use Rattle.std.proofs.Common.{arith, le_of_suc-le-suc, not-suc-le-zero, sym, ap, subst, ◌∙◌, ⊎_elim, get_or-append-add, leb-true, ltb-true, ltb-false}
+use Rattle.std.proofs.Math.ListN.{get_or-append}
 use Rattle.paper_expressions.proofs.Laws.Tests.{and_l, and_r, two, every}
 use Rattle.paper_expressions.specs.Bytes.{bytes}
 use Rattle.paper_tokens.specs.Words.{reserved}

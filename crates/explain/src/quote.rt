@@ -5,8 +5,5 @@ ghost use Rattle.std.specs.Prelude.{◌≡◌, ◌||◌, eqb};
 pub fn is_quote(b: u8) -> bool
     ensures { result ≡ (eqb b 39 || eqb b 34) }
 {
-    if b == b'\'' {
-        return true;
-    }
-    b == b'"'
+    matches!(b, b'\'' | b'"')
 }

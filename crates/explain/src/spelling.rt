@@ -1,5 +1,5 @@
 // Each terminal as a person writes it.
-ghost use Rattle.std.specs.Prelude.{◌≡◌, [], length, get_or};
+ghost use Rattle.std.specs.Prelude.{◌≡◌, [], get_or};
 ghost use Rattle.explain.specs.Spelling.{spellings as spellingsOf, spellings_table};
 
 use terminals::Terminal;
@@ -9,8 +9,6 @@ const WIDTH: usize = 24;
 
 // Those of all terminals.
 pub const TABLE: usize = WIDTH * Terminal::COUNT as usize;
-
-const LAST: u8 = Terminal::COUNT - 1;
 
 const SPELLINGS: [u8; TABLE] = *b"\
 \x05abort                  \x06action                 \x07against                \x03and                    \
@@ -40,12 +38,6 @@ const SPELLINGS: [u8; TABLE] = *b"\
 \x09yes or no              \x0ba data type            \x0aan integer             \x07a float                \
 \x17a text in double quotes";
 
-fn wide(b: u8) -> usize
-    ensures { result ≡ b }
-{
-    b as usize
-}
-
 // The table, which is made once for all that is spelt.
 pub fn spellings() -> [u8; TABLE]
     ensures { result ≡ spellings_table }
@@ -53,24 +45,15 @@ pub fn spellings() -> [u8; TABLE]
     SPELLINGS
 }
 
-// How long the spelling of the terminal k is.
-pub fn size(t: &[u8; TABLE], k: u8) -> usize
+// The spelling of the terminal k; none past the last.
+pub fn spelling(t: &[u8; TABLE], k: u8) -> &[u8]
     requires { t.now ≡ spellings_table }
-    ensures { result ≡ length (get_or spellingsOf k []) }
+    ensures { result.now ≡ get_or spellingsOf k [] }
 {
-    if LAST < k {
-        return 0;
+    if Terminal::COUNT <= k {
+        return &[];
     }
-    wide(t[wide(k) * WIDTH])
-}
-
-// The byte j of the spelling of the terminal k.
-pub fn letter(t: &[u8; TABLE], k: u8, j: usize) -> u8
-    requires { t.now ≡ spellings_table }
-    ensures { result ≡ get_or (get_or spellingsOf k []) j 0 }
-{
-    if size(t, k) <= j {
-        return 0;
-    }
-    t[wide(k) * WIDTH + 1 + j]
+    let at = usize::from(k) * WIDTH;
+    let n = usize::from(t[at]);
+    &t[at + 1..at + 1 + n]
 }

@@ -1,5 +1,5 @@
 -- What each search for a row finds: the first that passes a test, and the last attribute of the same word before one. Definitions, and the steps of the loops.
-use Rattle.std.specs.Prelude.{ℕ, ◌+◌, ◌-◌, ◌≤◌, ◌<◌, ◌≡◌, Bool, true, false, not, ◌&&◌, List, eqb}
+use Rattle.std.specs.Prelude.{ℕ, ◌+◌, ◌-◌, ◌≤◌, ◌<◌, ◌≡◌, Bool, true, false, not, ◌&&◌, List, Option, Some, None, MatchOption, eqb}
 use Rattle.std.proofs.Common.{sym, ap, subst, ◌∙◌, arith, eq-eqb, ne_eqb}
 use Rattle.paper_tokens.specs.Tokens.{“data”, “component”}
 use Rattle.row_names.specs.Sheet.{task_kind}
@@ -37,6 +37,11 @@ pub record First (f : ℕ → Bool) (to r : ℕ) : Type 0 where
   pub passes : r < to → f r ≡ true
   pub earlier : (m : ℕ) → m < r → f m ≡ false
 
+-- .. where there is one
+abbrev pub FirstOf : (ℕ → Bool) → ℕ → Option ℕ → Type 0
+FirstOf f to None = First f to to
+FirstOf f to (Some i) = (i < to) × First f to i
+
 -- ---- the last attribute of the same owner and word before j, or j
 
 pub record Before (x : List ℕ) (j r : ℕ) : Type 0 where
@@ -44,6 +49,11 @@ pub record Before (x : List ℕ) (j r : ℕ) : Type 0 where
   pub same : r < j → kind_of x r ≡ kind_of x j
   pub passed : r < j → Passed x (r + 1) j
   pub none : r ≡ j → Again x j false
+
+-- .. where there is one
+abbrev pub BeforeOf : List ℕ → ℕ → Option ℕ → Type 0
+BeforeOf x j None = Before x j j
+BeforeOf x j (Some i) = (i < j) × Before x j i
 
 -- ---- steps
 
@@ -63,6 +73,11 @@ module _ (x : List ℕ) (p i : ℕ) where
 -- another handle of the same number
 pub first_as : (x b : List ℕ) (s : Sort) (f : Bool) {g h to r : ℕ} → g ≡ h → First (named-at x b s f g) to r → First (named-at x b s f h) to r
 first_as x b s f {to = to} {r = r} e w = subst (λ (z : ℕ). First (named-at x b s f z) to r) e w
+
+-- what a search of the numbers below n finds
+pub first_of : (f : ℕ → Bool) (n : ℕ) (r : Option ℕ) → MatchOption r ((k : ℕ) → 0 ≤ k → k < n → f k ≡ false) (λ i. (0 ≤ i) × (i < n) × (f i ≡ true) × ((k : ℕ) → 0 ≤ k → k < i → f k ≡ false)) → FirstOf f n r
+first_of f n None h = record { within = omega arith; passes = λ k. absurd (omega arith); earlier = λ m l. h m (omega arith) l }
+first_of f n (Some i) h = (h.1, record { within = omega arith; passes = λ _. h.2; earlier = λ m l. h.3 m (omega arith) l })
 
 -- no row up to the end passes
 pub first_none : {f : ℕ → Bool} {to i : ℕ} → to ≤ i → ((m : ℕ) → m < i → f m ≡ false) → First f to to

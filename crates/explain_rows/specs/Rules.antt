@@ -1,5 +1,5 @@
 -- Which rule on names a row breaks, as it is told to a person: with the row of the other definition. Definitions, and at the end what the code finds out of them.
-use Rattle.std.specs.Prelude.{ℕ, ◌≤◌, ◌<◌, ◌≡◌, Bool, true, false, ◌&&◌, ◌||◌, List, [], ◌∷◌, ltb, eqb}
+use Rattle.std.specs.Prelude.{ℕ, ◌≤◌, ◌<◌, ◌≡◌, Bool, true, false, ◌&&◌, ◌||◌, List, [], ◌∷◌, ltb}
 use Rattle.std.proofs.Common.{sym, ap, subst, ◌∙◌, lt-ltb, le-ltb, ne_eqb}
 use Rattle.paper_expressions.proofs.Laws.Search.{sameb}
 use Rattle.paper_tokens.specs.Tokens.{“data”, “=”, “component”, “source”, “schedule-constraint”}

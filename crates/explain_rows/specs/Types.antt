@@ -1,5 +1,5 @@
 -- What an expression is wanted for, the first part without a type, and where an operand ends. Definitions, and the steps of the loops.
-use Rattle.std.specs.Prelude.{ℕ, zero, suc, ◌+◌, ◌-◌, ◌*◌, ◌≤◌, ◌<◌, ◌≡◌, refl, true, false, List, [], ◌∷◌, get_or}
+use Rattle.std.specs.Prelude.{ℕ, zero, suc, ◌+◌, ◌-◌, ◌*◌, ◌≤◌, ◌<◌, ◌≡◌, refl, true, false, List, [], ◌∷◌, Option, Some, None, get_or}
 use Rattle.std.proofs.Common.{sym, ap, ◌∙◌, arith, ne_eqb}
 use Rattle.std.proofs.Math.Decide.{dec_lt}
 use Rattle.paper_tokens.specs.Tokens.{“=”, “caption”, “description”}
@@ -32,6 +32,11 @@ pub record Untyped (t : Table) (names types : List ℕ) (from to r : ℕ) : Type
   pub within : r ≤ to
   pub none : r < to → Typed t names types root (r + 1) depth_limit 0
   pub typed : (p : ℕ) → from ≤ p → p < r → Lettered t names types p
+
+-- .. where there is one
+abbrev pub UntypedOf : Table → List ℕ → List ℕ → ℕ → ℕ → Option ℕ → Type 0
+UntypedOf t names types from to None = Untyped t names types from to to
+UntypedOf t names types from to (Some p) = (p < to) × Untyped t names types from to p
 
 -- where the operand ends behind which there are k others, of those that end at q
 abbrev pub backs : List ℕ → ℕ → ℕ → ℕ

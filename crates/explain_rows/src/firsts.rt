@@ -1,6 +1,6 @@
 // The first row that passes a test: of a place, of a name, of an attribute.
 ghost use Rattle.std.specs.Prelude.{◌≡◌};
-ghost use Rattle.explain_rows.specs.Firsts.{sort_kind, named-at, spot_at, begins_at, First, Before};
+ghost use Rattle.explain_rows.specs.Firsts.{sort_kind, named-at, spot_at, begins_at, FirstOf, BeforeOf};
 
 use name_tests::lists::matches;
 use names::flaws::spot;
@@ -20,14 +20,25 @@ pub enum Sort {
     Component,
 }
 
-// Whether a row of the kind `k` gives such a name.
-pub fn is_sort(sort: Sort, k: usize) -> bool
-    ensures { result ≡ sort_kind sort k }
-{
-    match sort {
-        Sort::Task => is_task(k),
-        Sort::Item => k == DATA,
-        Sort::Component => k == COMPONENT,
+impl Sort {
+    // Whether a row of the kind `k` gives such a name.
+    pub fn is_kind(self, k: usize) -> bool
+        ensures { result ≡ sort_kind self k }
+    {
+        match self {
+            Sort::Task => is_task(k),
+            Sort::Item => k == DATA,
+            Sort::Component => k == COMPONENT,
+        }
+    }
+
+    // What has such a name.
+    pub fn words(self) -> &'static [u8] {
+        match self {
+            Sort::Task => b"task",
+            Sort::Item => b"data item",
+            Sort::Component => b"component",
+        }
     }
 }
 
@@ -35,79 +46,57 @@ pub fn is_sort(sort: Sort, k: usize) -> bool
 fn is_named(rows: &[u32], bytes: &[u8], sort: Sort, folded: bool, h: usize, i: usize) -> bool
     ensures { result ≡ named-at rows.now bytes.now sort folded h i }
 {
-    if !is_sort(sort, kind(rows, i)) {
-        return false;
-    }
-    matches(bytes, folded, handle(rows, i), h)
+    sort.is_kind(kind(rows, i)) && matches(bytes, folded, handle(rows, i), h)
 }
 
-// The first such row before `to`, or `to`.
-pub fn named(rows: &[u32], bytes: &[u8], sort: Sort, folded: bool, h: usize, to: usize) -> usize
-    ensures { First (named-at rows.now bytes.now sort folded h) to result }
+// The first such row before `to`.
+pub fn named(
+    rows: &[u32],
+    bytes: &[u8],
+    sort: Sort,
+    folded: bool,
+    h: usize,
+    to: usize,
+) -> Option<usize>
+    ensures { FirstOf (named-at rows.now bytes.now sort folded h) to result }
 {
-    let mut i = 0;
-    while i < to {
-        if is_named(rows, bytes, sort, folded, h, i) {
-            return i;
-        }
-        i += 1;
-    }
-    to
+    (0..to).find(|i| is_named(rows, bytes, sort, folded, h, *i))
 }
 
-// The first of `n` rows whose flaw would be told at the place, or `n`.
-pub fn told_at(rows: &[u32], n: usize, place: usize) -> usize
-    ensures { First (spot_at rows.now place) n result }
+// The first of `n` rows whose flaw would be told at the place.
+pub fn told_at(rows: &[u32], n: usize, place: usize) -> Option<usize>
+    ensures { FirstOf (spot_at rows.now place) n result }
 {
-    let mut i = 0;
-    while i < n {
-        if spot(rows, i) == place {
-            return i;
-        }
-        i += 1;
-    }
-    n
+    (0..n).find(|i| spot(rows, *i) == place)
 }
 
 // Whether the row `i` has an expression that begins at the place.
 fn begins(rows: &[u32], place: usize, i: usize) -> bool
     ensures { result ≡ begins_at rows.now place i }
 {
-    if end(rows, i) == 0 {
-        return false;
-    }
-    begin(rows, i) == place
+    end(rows, i) != 0 && begin(rows, i) == place
 }
 
-// The first of `n` rows with such an expression, or `n`.
-pub fn begun_at(rows: &[u32], n: usize, place: usize) -> usize
-    ensures { First (begins_at rows.now place) n result }
+// The first of `n` rows with such an expression.
+pub fn begun_at(rows: &[u32], n: usize, place: usize) -> Option<usize>
+    ensures { FirstOf (begins_at rows.now place) n result }
 {
-    let mut i = 0;
-    while i < n {
-        if begins(rows, place, i) {
-            return i;
-        }
-        i += 1;
-    }
-    n
+    (0..n).find(|i| begins(rows, place, *i))
 }
 
-// The row of the same owner's last attribute before `j` that has the kind of `j`; `j` if there is none.
-pub fn before(rows: &[u32], j: usize) -> usize
-    ensures { Before rows.now j result }
+// The row of the same owner's last attribute before `j` that has the kind of `j`.
+pub fn before(rows: &[u32], j: usize) -> Option<usize>
+    ensures { BeforeOf rows.now j result }
 {
     let k = kind(rows, j);
-    let mut i = j;
-    while 0 < i {
-        i -= 1;
+    for i in (0..j).rev() {
         let m = kind(rows, i);
         if m == k {
-            return i;
+            return Some(i);
         }
         if parts(k, m) {
-            return j;
+            return None;
         }
     }
-    j
+    None
 }

@@ -40,21 +40,19 @@ pub enum Rule {
 fn of_task(rows: &[u32], bytes: &[u8], j: usize) -> Rule
     ensures { TellsTask rows.now bytes.now j result }
 {
-    let i = named(rows, bytes, Sort::Task, true, handle(rows, j), j);
-    if i < j {
-        return Rule::TaskTwice(i);
+    match named(rows, bytes, Sort::Task, true, handle(rows, j), j) {
+        Some(i) => Rule::TaskTwice(i),
+        None => Rule::NotReached,
     }
-    Rule::NotReached
 }
 
 fn of_item(rows: &[u32], bytes: &[u8], j: usize) -> Rule
     ensures { TellsItem rows.now bytes.now j result }
 {
-    let i = named(rows, bytes, Sort::Item, true, handle(rows, j), j);
-    if i < j {
-        return Rule::ItemTwice(i);
+    match named(rows, bytes, Sort::Item, true, handle(rows, j), j) {
+        Some(i) => Rule::ItemTwice(i),
+        None => Rule::Kept,
     }
-    Rule::Kept
 }
 
 fn of_component(rows: &[u32], n: usize, bytes: &[u8], j: usize) -> Rule
@@ -64,25 +62,20 @@ fn of_component(rows: &[u32], n: usize, bytes: &[u8], j: usize) -> Rule
     if same(bytes, handle(rows, 0), h) {
         return Rule::ComponentOfRoot;
     }
-    let i = named(rows, bytes, Sort::Component, false, h, j);
-    if i < j {
+    if let Some(i) = named(rows, bytes, Sort::Component, false, h, j) {
         return Rule::ComponentTwice(i);
     }
-    let t = named(rows, bytes, Sort::Task, false, h, n);
-    if t < n {
-        return Rule::Kept;
+    match named(rows, bytes, Sort::Task, false, h, n) {
+        Some(_) => Rule::Kept,
+        None => Rule::ComponentOfNone,
     }
-    Rule::ComponentOfNone
 }
 
 // Whether the component `c`, before the row `j`, has the name of the row.
 fn is_own(rows: &[u32], bytes: &[u8], j: usize, c: usize) -> bool
     ensures { result ≡ own_named rows.now bytes.now j c }
 {
-    if j <= c {
-        return false;
-    }
-    same(bytes, handle(rows, c), handle(rows, j))
+    c < j && same(bytes, handle(rows, c), handle(rows, j))
 }
 
 // Whether a component of the plan around the row `j` has its name.
@@ -102,29 +95,28 @@ fn of_constraint(rows: &[u32], n: usize, bytes: &[u8], j: usize) -> Rule
         return Rule::ConstraintOnItself(c);
     }
     if is_beside(rows, n, bytes, j) {
-        return Rule::Kept;
+        Rule::Kept
+    } else {
+        Rule::ConstraintOnNone
     }
-    Rule::ConstraintOnNone
 }
 
 fn of_source(rows: &[u32], n: usize, bytes: &[u8], j: usize) -> Rule
     ensures { TellsSource rows.now n bytes.now j result }
 {
-    let d = named(rows, bytes, Sort::Item, false, handle(rows, j), n);
-    if d < n {
-        return Rule::Kept;
+    match named(rows, bytes, Sort::Item, false, handle(rows, j), n) {
+        Some(_) => Rule::Kept,
+        None => Rule::SourceOfNone,
     }
-    Rule::SourceOfNone
 }
 
 fn of_target(rows: &[u32], n: usize, bytes: &[u8], j: usize) -> Rule
     ensures { TellsTarget rows.now n bytes.now j result }
 {
-    let d = named(rows, bytes, Sort::Item, true, handle(rows, j), n);
-    if d < n {
-        return Rule::Kept;
+    match named(rows, bytes, Sort::Item, true, handle(rows, j), n) {
+        Some(_) => Rule::Kept,
+        None => Rule::TargetOfNone,
     }
-    Rule::TargetOfNone
 }
 
 fn of_attribute(rows: &[u32], j: usize) -> Rule
@@ -133,22 +125,18 @@ fn of_attribute(rows: &[u32], j: usize) -> Rule
     if !once(kind(rows, j)) {
         return Rule::Kept;
     }
-    let i = before(rows, j);
-    if i < j {
-        return Rule::AttributeTwice(i);
+    match before(rows, j) {
+        Some(i) => Rule::AttributeTwice(i),
+        None => Rule::Kept,
     }
-    Rule::Kept
 }
 
 // The rule that the row `j` of `n` breaks.
 pub fn broken(rows: &[u32], n: usize, bytes: &[u8], j: usize) -> Rule
     ensures { Told rows.now n bytes.now j result }
 {
-    let k = kind(rows, j);
-    if is_task(k) {
-        return of_task(rows, bytes, j);
-    }
-    match k {
+    match kind(rows, j) {
+        k if is_task(k) => of_task(rows, bytes, j),
         DATA => of_item(rows, bytes, j),
         COMPONENT => of_component(rows, n, bytes, j),
         CONSTRAINT => of_constraint(rows, n, bytes, j),

@@ -17,20 +17,13 @@ pub fn byte(b: u8) {
 
 // The bytes from one place up to another, made harmless.
 pub fn part(text: &[u8], from: usize, to: usize) {
-    let mut i = from;
-    while i < to {
-        if text.len() <= i {
-            return;
-        }
-        byte(shown(text[i]));
-        i += 1;
+    for b in text.iter().take(to).skip(from) {
+        byte(shown(*b));
     }
 }
 
 pub fn blanks(n: usize) {
-    let mut i = 0usize;
-    while i < n {
+    for _ in 0..n {
         byte(b' ');
-        i += 1;
     }
 }

@@ -1,6 +1,6 @@
 -- Where a place stands for a person: the number of its line, counted from 1, and where that line begins and ends. With the steps of the loops that find them.
 use Rattle.std.specs.Prelude.{ℕ, zero, suc, ◌+◌, ◌-◌, ◌≤◌, ◌<◌, ◌≡◌, ◌⊎◌, true, false, cond, List, eqb, ltb, length, get_or}
-use Rattle.std.proofs.Common.{add-one, arith, ap, subst, inl, inr, ⊎_elim, ltb-true, ltb-false}
+use Rattle.std.proofs.Common.{add-one, arith, ap, subst, ⊎_elim, ltb-true, ltb-false}
 use Rattle.paper_expressions.proofs.Laws.Tests.{two}
 
 abbrev pub newline : ℕ → ℕ

@@ -1,14 +1,14 @@
 -- One byte more, in each of the four cases; and the refusal of a text that is too long. By what stands at each place of a longer text.
-use Rattle.std.specs.Prelude.{ℕ, zero, suc, ◌+◌, ◌-◌, ◌≤◌, ◌<◌, ◌≡◌, refl, ◌⊎◌, Bool, true, false, cond, List, [], ◌∷◌, ◌++◌, eqb, ltb, length, take, get_or}
+use Rattle.std.specs.Prelude.{ℕ, zero, suc, ◌+◌, ◌-◌, ◌≤◌, ◌<◌, ◌≡◌, refl, true, false, List, [], ◌∷◌, ◌++◌, eqb, ltb, length, take, get_or}
 use Rattle.std.proofs.Common.{add-one, arith, sym, ap, subst, ◌∙◌, inl, inr, ⊎_elim, append_assoc, length-append, take-suc, ltb-true, ltb-false, eq-eqb, ne_eqb}
 use Rattle.std.proofs.Math.ListN.{get_or-append}
 use Rattle.std.proofs.Math.Seq.{get_or-append_seam}
 use Rattle.paper_expressions.proofs.Laws.Tests.{two, contra}
 use Rattle.paper_expressions.specs.View.{At, at_first, at_later}
 use Rattle.paper_guideline.specs.Limits.{guideline_limit}
-use Rattle.paper_guideline.specs.Refusals.{Stage, text_stage, turn, Breach, high_byte, long, Refused}
+use Rattle.paper_guideline.specs.Refusals.{text_stage, Breach, high_byte, long, Refused}
 use Rattle.spot.specs.Lines.{newline, newlines, Unbroken, Begins, one_more, unbroken_up}
-use Rattle.spot.specs.Seen.{countable, high_at, Describes}
+use Rattle.spot.specs.Seen.{high_at, Describes}
 use Rattle.spot.specs.declared.seen.Seen.{Seen}
 
 -- ---- a longer text is the same up to the end of the shorter

@@ -1,5 +1,5 @@
 -- How a line is shown to a person: its bytes made harmless, and a long line cut around the place. Definitions only.
-use Rattle.std.specs.Prelude.{ℕ, ◌+◌, ◌≤◌, ◌<◌, ◌≡◌, ◌⊎◌}
+use Rattle.std.specs.Prelude.{ℕ, ◌+◌, ◌≤◌, ◌<◌, ◌≡◌}
 
 -- whatever the byte b is, what is shown is printable: from the blank (32) to the tilde (126)
 pub record Shown (b r : ℕ) : Type 0 where

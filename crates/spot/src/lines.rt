@@ -1,31 +1,20 @@
 // The line of a place.
-ghost use Rattle.std.specs.Prelude.{◌≡◌, ◌+◌, ◌≤◌, length};
-ghost use Rattle.spot.specs.Lines.{newline, newlines, Begins, Ends, Column};
+ghost use Rattle.std.specs.Prelude.{◌≡◌, ◌==◌, ◌+◌, ◌≤◌, length, count_by};
+ghost use Rattle.spot.specs.Lines.{newlines as newlines_before, Begins, Ends, Column};
 
-// 1 for a newline, 0 for any other byte.
-fn one(b: u8) -> usize
-    ensures { (result ≡ newline b) × (result ≤ 1) }
+// How many newlines there are.
+fn newlines(text: &[u8]) -> usize
+    ensures counted { result ≡ count_by (λ b. b == 10) text.now }
+    ensures few { result ≤ length text.now }
 {
-    if b == 10 {
-        return 1;
-    }
-    0
+    text.iter().filter(|b| **b == b'\n').count()
 }
 
 // Its number, counted from 1.
 pub fn line(text: &[u8], place: usize) -> usize
-    ensures { place ≤ length text.now → result ≡ newlines text.now place + 1 }
+    ensures { place ≤ length text.now → result ≡ newlines_before text.now place + 1 }
 {
-    let mut n = 1usize;
-    let mut i = 0usize;
-    while i < place {
-        if text.len() <= i {
-            return n;
-        }
-        n += one(text[i]);
-        i += 1;
-    }
-    n
+    newlines(&text[..place.min(text.len())]) + 1
 }
 
 // Where it begins.
@@ -35,28 +24,24 @@ pub fn begin(text: &[u8], place: usize) -> usize
     if text.len() < place {
         return 0;
     }
-    let mut i = place;
-    while 0 < i {
-        if text[i - 1] == 10 {
-            return i;
+    for i in (0..place).rev() {
+        if text[i] == b'\n' {
+            return i + 1;
         }
-        i -= 1;
     }
-    i
+    0
 }
 
 // Where it ends.
 pub fn end(text: &[u8], place: usize) -> usize
     ensures { place ≤ length text.now → Ends text.now place result }
 {
-    let mut i = place;
-    while i < text.len() {
-        if text[i] == 10 {
+    for i in place..text.len() {
+        if text[i] == b'\n' {
             return i;
         }
-        i += 1;
     }
-    i
+    text.len()
 }
 
 // Its column: the place in the line, counted from 1.
@@ -66,9 +51,5 @@ pub fn column(text: &[u8], place: usize) -> usize
     if text.len() < place {
         return 0;
     }
-    let b = begin(text, place);
-    if place < b {
-        return 0;
-    }
-    place - b + 1
+    place - begin(text, place) + 1
 }

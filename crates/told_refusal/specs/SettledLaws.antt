@@ -1,6 +1,7 @@
 -- One part more; and the columns that are gathered of the rows are those of the guideline's data items.
-use Rattle.std.specs.Prelude.{ℕ, ◌+◌, ◌≤◌, ◌<◌, ◌≡◌, refl, ◌⊎◌, List, length, get_or, take, set}
+use Rattle.std.specs.Prelude.{ℕ, ◌+◌, ◌≤◌, ◌<◌, ◌≡◌, refl, ◌⊎◌, List, Option, Some, None, length, get_or, take, set}
 use Rattle.std.proofs.Common.{arith, sym, subst, ◌∙◌, inl, inr, ⊎_elim, length-set, get_or-set_same, get_or-set_other}
+use Rattle.std.specs.Option.{unwrap_or}
 use Rattle.std.proofs.Math.Decide.{dec_lt}
 use Rattle.paper_guideline.specs.Structure.{TopLevel}
 use Rattle.paper_guideline.specs.Limits.{depth_limit, data_item_limit}
@@ -10,7 +11,7 @@ use Rattle.typer.specs.Typed.{Typed}
 use Rattle.types.specs.Columns.{Gathers}
 use Rattle.types.specs.Judged.{Given}
 use Rattle.types.specs.JudgedLaws.{few_gathered, gathered_items}
-use Rattle.explain_rows.specs.Types.{root, Untyped}
+use Rattle.explain_rows.specs.Types.{root, Untyped, UntypedOf}
 use Rattle.told_refusal.specs.Settled.{Spelt, FirstUntyped, Settled}
 
 -- ---- the letters of the parts before p
@@ -64,6 +65,11 @@ module _ {t : Table} {names types : List ℕ} {from : ℕ} {l m : List ℕ} {p :
       before_or : {q : ℕ} → Dec (q < from) → p ≡ from → (q < from) ⊎ (p ≤ q)
       before_or (yes z) y = inl z
       before_or (no z) y = inr (omega arith)
+
+-- the first part that has no type, where there is one
+pub untyped_or : (t : Table) (names types : List ℕ) (from to : ℕ) (r : Option ℕ) → UntypedOf t names types from to r → Untyped t names types from to (unwrap_or r to)
+untyped_or t names types from to None w = w
+untyped_or t names types from to (Some p) w = w.1
 
 -- ---- the columns
 

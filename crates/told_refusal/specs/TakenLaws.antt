@@ -1,5 +1,5 @@
 -- Laws: what is seen of two pieces, one behind the other; and what is known then of the text that was taken. By where the pieces meet.
-use Rattle.std.specs.Prelude.{ℕ, ◌+◌, ◌≤◌, ◌≡◌, refl, List, [], ◌++◌, length, take}
+use Rattle.std.specs.Prelude.{ℕ, ◌≤◌, ◌≡◌, refl, List, [], ◌++◌, length, take}
 use Rattle.std.proofs.Common.{arith, append_assoc, append-nil, length-append}
 use Rattle.spot.specs.Seen.{Describes}
 use Rattle.spot.specs.declared.seen.Seen.{Seen}

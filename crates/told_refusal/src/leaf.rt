@@ -12,10 +12,7 @@ use terminals::Terminal;
 fn is_call(kinds: &[u8], i: usize) -> bool
     ensures { result ≡ defined.is_call kinds.now i }
 {
-    if kinds.len() <= i {
-        return false;
-    }
-    byte(kinds, i + 1) == Terminal::LEFT_PARENTHESIS
+    byte(kinds, i.saturating_add(1)) == Terminal::LEFT_PARENTHESIS
 }
 
 // Whether the token i is an atom, a number or a text, and no functor.
@@ -23,27 +20,19 @@ fn is_leaf(kinds: &[u8], i: usize) -> bool
     ensures { result ≡ defined.is_leaf kinds.now i }
 {
     let k = byte(kinds, i);
-    if k < Terminal::OTHER_ATOM {
-        return false;
-    }
-    if Terminal::DATA_TYPE < k {
-        return true;
-    }
-    !is_call(kinds, i)
+    Terminal::OTHER_ATOM <= k && (Terminal::DATA_TYPE < k || !is_call(kinds, i))
 }
 
 // The first such token from i on.
 fn next(kinds: &[u8], i: usize) -> usize
     ensures { result ≡ defined.next_leaf kinds.now i }
 {
-    let mut k = i;
-    while k < kinds.len() {
+    for k in i..kinds.len() {
         if is_leaf(kinds, k) {
             return k;
         }
-        k += 1;
     }
-    k
+    i.max(kinds.len())
 }
 
 // The first such token behind i.
@@ -51,9 +40,10 @@ fn behind(kinds: &[u8], i: usize) -> usize
     ensures { result ≡ defined.leaf_behind kinds.now i }
 {
     if i < TokenList::LIMIT {
-        return next(kinds, i + 1);
+        next(kinds, i + 1)
+    } else {
+        i
     }
-    i
 }
 
 // The token of the next such part, where t is that of the part p, if it is one.
@@ -61,9 +51,10 @@ fn past(cells: &[u32], kinds: &[u8], t: usize, p: usize) -> usize
     ensures { result ≡ cond (defined.leaf_part cells.now p) (defined.leaf_behind kinds.now t) t }
 {
     if code(cells, p) < Code::LIST {
-        return behind(kinds, t);
+        behind(kinds, t)
+    } else {
+        t
     }
-    t
 }
 
 // The first token of the part `to`, where the expression's first part is `from` and its first token i.
@@ -71,10 +62,8 @@ fn token(cells: &[u32], from: usize, to: usize, kinds: &[u8], i: usize) -> usize
     ensures { result ≡ defined.token_of cells.now from to kinds.now i }
 {
     let mut t = next(kinds, i);
-    let mut p = from;
-    while p < to {
+    for p in from..to {
         t = past(cells, kinds, t, p);
-        p += 1;
     }
     t
 }
@@ -89,15 +78,12 @@ pub fn tell(
     places: &[usize],
     i: usize,
 ) {
-    if p < size(cells, p) {
-        return;
+    if let Some(first) = p.checked_sub(size(cells, p)) {
+        let t = token(cells, from, first, kinds, i);
+        if i < t {
+            write::text(b" That is at ");
+            slips::place(text, cell(places, t));
+            write::text(b".");
+        }
     }
-    let first = p - size(cells, p);
-    let t = token(cells, from, first, kinds, i);
-    if t <= i {
-        return;
-    }
-    write::text(b" That is at ");
-    slips::place(text, cell(places, t));
-    write::text(b".");
 }

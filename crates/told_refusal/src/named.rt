@@ -4,130 +4,117 @@ use explain_rows::rules;
 use explain_rows::rules::Rule;
 use row_tests::cells::{handle, word};
 use row_tests::texts::same;
+use sentences::slips::Sheet;
 use sentences::{slips, write};
 
-// A task or data item that is defined before, as the row `i`.
-fn twice(text: &[u8], rows: &[u32], bytes: &[u8], s: Sort, j: usize, i: usize) {
+// A task or data item, the row `j`, that is defined before, as the row `i`.
+fn twice(sheet: Sheet, s: Sort, j: usize, i: usize) {
     write::text(b"A ");
-    slips::sort(s);
+    write::text(s.words());
     write::text(b" named ");
-    slips::name(bytes, handle(rows, i));
+    sheet.name(i);
     write::text(b" is defined before, in ");
-    slips::stands(text, rows, i);
+    sheet.stands(i);
     write::text(b".");
-    if !same(bytes, handle(rows, i), handle(rows, j)) {
+    if !same(sheet.bytes, handle(sheet.rows, i), handle(sheet.rows, j)) {
         write::text(b" Capital letters make no difference.");
     }
 }
 
 // An attribute that is given before, as the row `i`.
-fn again(text: &[u8], rows: &[u32], i: usize) {
+fn again(sheet: Sheet, i: usize) {
     write::text(b"This attribute is given before, in ");
-    slips::place(text, word(rows, i));
+    slips::place(sheet.text, word(sheet.rows, i));
     write::text(b"; it may be given once.");
 }
 
 // A component that names the first plan.
-fn root(text: &[u8], rows: &[u32], bytes: &[u8]) {
-    slips::name(bytes, handle(rows, 0));
+fn root(sheet: Sheet) {
+    sheet.name(0);
     write::text(b" is the first plan, in ");
-    slips::stands(text, rows, 0);
+    sheet.stands(0);
     write::text(b"; it is a component of no plan.");
 }
 
 // A component that another names before, as the row `i`.
-fn component_again(text: &[u8], rows: &[u32], bytes: &[u8], i: usize) {
-    slips::name(bytes, handle(rows, i));
+fn component_again(sheet: Sheet, i: usize) {
+    sheet.name(i);
     write::text(b" is a component already, in ");
-    slips::stands(text, rows, i);
+    sheet.stands(i);
     write::text(b"; a task is a component once.");
 }
 
-// What is named, and is not there.
-fn missing(bytes: &[u8], s: Sort, h: usize) {
-    write::text(b"No ");
-    slips::sort(s);
-    write::text(b" is named ");
-    slips::name(bytes, h);
-    write::text(b".");
-}
-
 // A component of no task, a source or a target of no data item; it may be a name of the other sort.
-fn of_none(text: &[u8], rows: &[u32], n: usize, bytes: &[u8], s: Sort, else_sort: Sort, h: usize) {
-    missing(bytes, s, h);
-    if slips::remark(text, rows, n, bytes, s, h) {
-        return;
+fn of_none(sheet: Sheet, s: Sort, else_sort: Sort, h: usize) {
+    write::text(b"No ");
+    write::text(s.words());
+    write::text(b" is named ");
+    slips::name(sheet.bytes, h);
+    write::text(b".");
+    if !sheet.remark(s, h) {
+        sheet.other(else_sort, h);
     }
-    slips::other(text, rows, n, bytes, else_sort, h);
 }
 
 // A schedule constraint on its own component, the row `c`.
-fn itself(text: &[u8], rows: &[u32], bytes: &[u8], c: usize) {
+fn itself(sheet: Sheet, c: usize) {
     write::text(b"The component ");
-    slips::name(bytes, handle(rows, c));
+    sheet.name(c);
     write::text(b" of ");
-    slips::stands(text, rows, c);
+    sheet.stands(c);
     write::text(b", would wait for itself.");
 }
 
 // A schedule constraint on no component of its plan.
-fn not_beside(text: &[u8], rows: &[u32], n: usize, bytes: &[u8], h: usize) {
+fn not_beside(sheet: Sheet, h: usize) {
     write::text(b"This plan has no component named ");
-    slips::name(bytes, h);
+    slips::name(sheet.bytes, h);
     write::text(b".");
-    let i = named(rows, bytes, Sort::Component, false, h, n);
-    if i < n {
+    if let Some(i) = named(sheet.rows, sheet.bytes, Sort::Component, false, h, sheet.n) {
         write::text(b" Another plan has, in ");
-        slips::stands(text, rows, i);
+        sheet.stands(i);
         write::text(b".");
-        return;
+    } else if !sheet.remark(Sort::Component, h) {
+        sheet.other(Sort::Item, h);
     }
-    if slips::remark(text, rows, n, bytes, Sort::Component, h) {
-        return;
-    }
-    slips::other(text, rows, n, bytes, Sort::Item, h);
 }
 
 // A task that is not reached from the first plan.
-fn unreached(text: &[u8], rows: &[u32], n: usize, bytes: &[u8], h: usize) {
+fn unreached(sheet: Sheet, h: usize) {
     write::text(b"The task ");
-    slips::name(bytes, h);
+    slips::name(sheet.bytes, h);
     write::text(b" is never run: ");
-    let i = named(rows, bytes, Sort::Component, false, h, n);
-    if i < n {
+    if let Some(i) = named(sheet.rows, sheet.bytes, Sort::Component, false, h, sheet.n) {
         write::text(b"its component stands in ");
-        slips::stands(text, rows, i);
+        sheet.stands(i);
         write::text(b", in a plan that is not reached from the first plan.");
-        return;
+    } else {
+        write::text(b"it is a component of no plan.");
     }
-    write::text(b"it is a component of no plan.");
 }
 
 // What is said of the row `j`.
-fn tell(text: &[u8], rows: &[u32], n: usize, bytes: &[u8], j: usize) {
-    let h = handle(rows, j);
-    match rules::broken(rows, n, bytes, j) {
-        Rule::TaskTwice(i) => twice(text, rows, bytes, Sort::Task, j, i),
-        Rule::ItemTwice(i) => twice(text, rows, bytes, Sort::Item, j, i),
-        Rule::AttributeTwice(i) => again(text, rows, i),
-        Rule::ComponentOfRoot => root(text, rows, bytes),
-        Rule::ComponentTwice(i) => component_again(text, rows, bytes, i),
-        Rule::ComponentOfNone => of_none(text, rows, n, bytes, Sort::Task, Sort::Item, h),
-        Rule::ConstraintOnItself(c) => itself(text, rows, bytes, c),
-        Rule::ConstraintOnNone => not_beside(text, rows, n, bytes, h),
-        Rule::SourceOfNone => of_none(text, rows, n, bytes, Sort::Item, Sort::Task, h),
-        Rule::TargetOfNone => of_none(text, rows, n, bytes, Sort::Item, Sort::Task, h),
-        Rule::NotReached => unreached(text, rows, n, bytes, h),
+fn tell(sheet: Sheet, j: usize) {
+    let h = handle(sheet.rows, j);
+    match rules::broken(sheet.rows, sheet.n, sheet.bytes, j) {
+        Rule::TaskTwice(i) => twice(sheet, Sort::Task, j, i),
+        Rule::ItemTwice(i) => twice(sheet, Sort::Item, j, i),
+        Rule::AttributeTwice(i) => again(sheet, i),
+        Rule::ComponentOfRoot => root(sheet),
+        Rule::ComponentTwice(i) => component_again(sheet, i),
+        Rule::ComponentOfNone => of_none(sheet, Sort::Task, Sort::Item, h),
+        Rule::ConstraintOnItself(c) => itself(sheet, c),
+        Rule::ConstraintOnNone => not_beside(sheet, h),
+        Rule::SourceOfNone | Rule::TargetOfNone => of_none(sheet, Sort::Item, Sort::Task, h),
+        Rule::NotReached => unreached(sheet, h),
         Rule::Kept => {}
     }
 }
 
 // The sentence on what is broken at a place.
-pub fn why(text: &[u8], rows: &[u32], n: usize, bytes: &[u8], place: usize) {
-    let j = told_at(rows, n, place);
-    if n <= j {
-        return;
+pub fn why(sheet: Sheet, place: usize) {
+    if let Some(j) = told_at(sheet.rows, sheet.n, place) {
+        tell(sheet, j);
+        write::text(b"\n");
     }
-    tell(text, rows, n, bytes, j);
-    write::text(b"\n");
 }

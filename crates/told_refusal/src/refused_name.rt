@@ -2,14 +2,20 @@
 use crate::named;
 use limits::{Expressions, Guideline, Rows};
 use reading::Reading;
+use sentences::slips::Sheet;
 
 // Refusal 4 at a place.
 pub fn of_name(text: &[u8], place: usize) {
     let mut rows = [0u32; Rows::CELLS];
     let mut cells = [0u32; Expressions::CELLS];
     let mut bytes = [0u8; Guideline::LIMIT];
-    match reading::read(text, &mut rows, &mut cells, &mut bytes) {
-        Reading::Reads(n) => named::why(text, &rows, n, &bytes, place),
-        Reading::Refused(_, _) => {}
+    if let Reading::Reads(n) = reading::read(text, &mut rows, &mut cells, &mut bytes) {
+        let sheet = Sheet {
+            text,
+            rows: &rows,
+            n,
+            bytes: &bytes,
+        };
+        named::why(sheet, place);
     }
 }

@@ -3,24 +3,22 @@ use crate::{leaf, typed};
 use explain_rows::firsts::begun_at;
 use limits::{Expressions, Guideline, Rows};
 use reading::Reading;
-use row_tests::cells::{end, first_part};
+use row_tests::cells::first_part;
+use sentences::slips::Sheet;
 use sentences::write;
 
 // Of the row `j`, whose expression begins at the token i.
-fn of_type(
-    text: &[u8],
-    kinds: &[u8],
-    places: &[usize],
-    i: usize,
-    rows: &[u32],
-    n: usize,
-    cells: &[u32],
-    bytes: &[u8],
-    j: usize,
-) {
-    let p = typed::why(text, rows, n, cells, bytes, j);
-    if p < end(rows, j) {
-        leaf::tell(text, cells, first_part(rows, j), p, kinds, places, i);
+fn of_type(sheet: Sheet, cells: &[u32], kinds: &[u8], places: &[usize], i: usize, j: usize) {
+    if let Some(p) = typed::why(sheet, cells, j) {
+        leaf::tell(
+            sheet.text,
+            cells,
+            first_part(sheet.rows, j),
+            p,
+            kinds,
+            places,
+            i,
+        );
     }
     write::text(b"\n");
 }
@@ -30,11 +28,15 @@ pub fn of_expression(text: &[u8], kinds: &[u8], places: &[usize], i: usize, plac
     let mut rows = [0u32; Rows::CELLS];
     let mut cells = [0u32; Expressions::CELLS];
     let mut bytes = [0u8; Guideline::LIMIT];
-    match reading::read(text, &mut rows, &mut cells, &mut bytes) {
-        Reading::Reads(n) => {
-            let j = begun_at(&rows, n, place);
-            of_type(text, kinds, places, i, &rows, n, &cells, &bytes, j);
+    if let Reading::Reads(n) = reading::read(text, &mut rows, &mut cells, &mut bytes) {
+        let sheet = Sheet {
+            text,
+            rows: &rows,
+            n,
+            bytes: &bytes,
+        };
+        if let Some(j) = begun_at(&rows, n, place) {
+            of_type(sheet, &cells, kinds, places, i, j);
         }
-        Reading::Refused(_, _) => {}
     }
 }

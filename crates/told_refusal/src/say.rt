@@ -1,11 +1,8 @@
 // What is wrong, in a sentence.
-ghost use Rattle.std.specs.Prelude.{◌≡◌};
-ghost use Rattle.explain.specs.Spelling.{spellings_table};
-
 use crate::refused_name::of_name;
 use crate::refused_type::of_expression;
 use explain::{offer, quote, spelling};
-use leaves::cell;
+use leaves::{cell, fits};
 use limits::{Refusal, TokenList};
 use parts::byte;
 use sentences::write;
@@ -21,44 +18,30 @@ fn of_bytes(seen: Seen) {
         write::text(
             b"This byte is over 127. A guideline is written in plain ASCII: letters, digits and signs, without accents or typographic quotes.\n",
         );
-        return;
+    } else {
+        write::text(b"The text has ");
+        write::number(seen.total);
+        write::text(b" bytes; a guideline has at most 16,384.\n");
     }
-    write::text(b"The text has ");
-    write::number(seen.total);
-    write::text(b" bytes; a guideline has at most 16,384.\n");
 }
 
 // Refusal 2.
 fn of_start(b: u8) {
     if quote::is_quote(b) {
         write::text(b"This quote is never closed.\n");
-        return;
-    }
-    write::text(b"Nothing of the language starts with this.\n");
-}
-
-// A terminal as it is written.
-fn spelt(t: &[u8; spelling::TABLE], k: u8)
-    requires { t.now ≡ spellings_table }
-{
-    write::text(b"  ");
-    let n = spelling::size(t, k);
-    let mut j = 0usize;
-    while j < n {
-        write::byte(spelling::letter(t, k, j));
-        j += 1;
+    } else {
+        write::text(b"Nothing of the language starts with this.\n");
     }
 }
 
-// Every terminal from one number up to another that is worth offering at the token i.
+// Every terminal from one number up to another that is worth offering at the token i, as it is written.
 fn between(kinds: &[u8], i: usize, from: u8, to: u8) {
     let t = spelling::spellings();
-    let mut k = from;
-    while k < to {
+    for k in from..to {
         if offer::is_offered(kinds, i, k) {
-            spelt(&t, k);
+            write::text(b"  ");
+            write::text(spelling::spelling(&t, k));
         }
-        k += 1;
     }
 }
 
@@ -69,29 +52,26 @@ fn offers(kinds: &[u8], i: usize) {
     write::text(b"\n");
 }
 
-// Refusal 3, at the token i of n.
-fn of_grammar(kinds: &[u8], i: usize, n: usize) {
-    if i < n {
-        write::text(b"This cannot stand here. What could:");
-        if offer::may_end(kinds, i) {
-            write::text(b"  the end of the text");
-        }
-        offers(kinds, i);
-        return;
+// Refusal 3, at the token i.
+fn of_grammar(kinds: &[u8], i: usize) {
+    write::text(b"This cannot stand here. What could:");
+    if offer::may_end(kinds, i) {
+        write::text(b"  the end of the text");
     }
-    write::text(b"The guideline ends too early. What could come:");
     offers(kinds, i);
+}
+
+// .. and behind the last token.
+fn of_end(kinds: &[u8]) {
+    write::text(b"The guideline ends too early. What could come:");
+    offers(kinds, kinds.len());
 }
 
 // The token of so many bytes at a place.
 fn token(text: &[u8], place: usize, size: usize) {
-    if text.len() < place {
-        return;
+    if fits(text, place, size) {
+        write::part(text, place, place + size);
     }
-    if text.len() - place < size {
-        return;
-    }
-    write::part(text, place, place + size);
 }
 
 // Refusal 10, at a token of the terminal k and of so many bytes.
@@ -131,21 +111,14 @@ fn of_counts() {
 fn of_tokens(text: &[u8], place: usize) {
     if place < text.len() {
         write::text(b"More than 24 brackets are open here.\n");
-        return;
+    } else {
+        write::text(
+            b"The guideline has more than 4,096 tokens: words, numbers, texts and signs.\n",
+        );
     }
-    write::text(b"The guideline has more than 4,096 tokens: words, numbers, texts and signs.\n");
 }
 
-// Refusal 6, at the token i of n.
-fn of_limit(text: &[u8], k: u8, place: usize, size: usize, i: usize, n: usize) {
-    if i < n {
-        of_token(text, k, place, size);
-        return;
-    }
-    of_counts();
-}
-
-// A refusal at the token i of n.
+// A refusal at a token, or behind the last.
 fn of_token_at(
     text: &[u8],
     kinds: &[u8],
@@ -153,15 +126,15 @@ fn of_token_at(
     lengths: &[usize],
     number: u8,
     place: usize,
-    i: usize,
-    n: usize,
 ) {
-    match number {
-        Refusal::GRAMMAR => of_grammar(kinds, i, n),
-        Refusal::NAME => of_name(text, place),
-        Refusal::TYPE => of_expression(text, kinds, places, i, place),
-        Refusal::LIMIT => of_limit(text, byte(kinds, i), place, cell(lengths, i), i, n),
-        Refusal::LEFT_OUT => of_edition(text, byte(kinds, i), place, cell(lengths, i)),
+    match (number, offer::token_at(places, place)) {
+        (Refusal::GRAMMAR, Some(i)) => of_grammar(kinds, i),
+        (Refusal::GRAMMAR, None) => of_end(kinds),
+        (Refusal::NAME, _) => of_name(text, place),
+        (Refusal::TYPE, Some(i)) => of_expression(text, kinds, places, i, place),
+        (Refusal::LIMIT, Some(i)) => of_token(text, byte(kinds, i), place, cell(lengths, i)),
+        (Refusal::LIMIT, None) => of_counts(),
+        (Refusal::LEFT_OUT, Some(i)) => of_edition(text, byte(kinds, i), place, cell(lengths, i)),
         _ => {}
     }
 }
@@ -173,8 +146,14 @@ fn of_tokens_at(text: &[u8], number: u8, place: usize) {
     let mut lengths = [0usize; TokenList::LIMIT];
     match tokens::tokens(text, &mut kinds, &mut places, &mut lengths) {
         Read::Tokens(n) => {
-            let i = offer::token_at(&places, n, place);
-            of_token_at(text, &kinds, &places, &lengths, number, place, i, n);
+            of_token_at(
+                text,
+                &kinds[..n],
+                &places[..n],
+                &lengths[..n],
+                number,
+                place,
+            );
         }
         Read::Refused(_, _) => of_tokens(text, place),
         Read::Short => {}

@@ -1,4 +1,5 @@
 // Refusal 5: what type an expression has and what was wanted; or the smallest part that has no type, and what it is given.
+ghost use Rattle.std.specs.Option.{unwrap_or};
 ghost use Rattle.parts.specs.Part.{table};
 ghost use Rattle.row_tests.specs.Table.{cell_of};
 ghost use Rattle.told_refusal.specs.Settled.{Spelt, Settled, FirstUntyped};
@@ -6,85 +7,83 @@ ghost use Rattle.told_refusal.specs.Settled.{Spelt, Settled, FirstUntyped};
 use explain_rows::firsts::{Sort, named};
 use explain_rows::types::{Wanted, asked, letter, operand, untyped};
 use limits::{DataItems, Expressions};
-use parts::{Code, byte, code, count, load};
+use parts::{Code, Declared, byte, code, count, load};
 use row_tests::cells::{ROWS, declared, end, first_part, handle};
+use sentences::slips::Sheet;
 use sentences::{slips, write};
 use types::columns::gather;
 
 // The number of a declared type: boolean.
-const BOOLEAN: usize = 3;
+const BOOLEAN: usize = Declared::BOOLEAN as usize;
 
 // What the data item of the row `i` takes.
-fn takes(text: &[u8], rows: &[u32], bytes: &[u8], i: usize) {
+fn takes(sheet: Sheet, i: usize) {
     write::text(b"the data item ");
-    slips::name(bytes, handle(rows, i));
+    sheet.name(i);
     write::text(b" of ");
-    slips::stands(text, rows, i);
+    sheet.stands(i);
     write::text(b", takes ");
-    type_words::declared(declared(rows, i));
+    type_words::declared(declared(sheet.rows, i));
 }
 
 // What was wanted of the row `j`.
-fn wanted(text: &[u8], rows: &[u32], n: usize, bytes: &[u8], j: usize) {
-    match asked(rows, n, bytes, j) {
+fn wanted(sheet: Sheet, j: usize) {
+    match asked(sheet.rows, sheet.n, sheet.bytes, j) {
         Wanted::Truth => write::text(b"a condition has to be a truth value, as a comparison is"),
         Wanted::Text => write::text(b"a caption or description has to be a text"),
-        Wanted::Item(i) => takes(text, rows, bytes, i),
+        Wanted::Item(i) => takes(sheet, i),
     }
 }
 
 // Why the atom with the handle `h` is a text, where that may surprise: no data item has the name, or one that is boolean.
-fn atom(text: &[u8], rows: &[u32], n: usize, bytes: &[u8], h: usize) {
-    let i = named(rows, bytes, Sort::Item, true, h, n);
-    if n <= i {
-        write::text(b" ");
-        slips::name(bytes, h);
-        write::text(b" is no data item, and so a text.");
-        slips::remark(text, rows, n, bytes, Sort::Item, h);
-        return;
-    }
-    if declared(rows, i) == BOOLEAN {
-        write::text(b" ");
-        slips::name(bytes, h);
-        write::text(b" is boolean, and so a text: it can be compared with yes or no.");
+fn atom(sheet: Sheet, h: usize) {
+    match named(sheet.rows, sheet.bytes, Sort::Item, true, h, sheet.n) {
+        Some(i) if declared(sheet.rows, i) == BOOLEAN => {
+            write::text(b" ");
+            slips::name(sheet.bytes, h);
+            write::text(b" is boolean, and so a text: it can be compared with yes or no.");
+        }
+        Some(_) => {}
+        None => {
+            write::text(b" ");
+            slips::name(sheet.bytes, h);
+            write::text(b" is no data item, and so a text.");
+            sheet.remark(Sort::Item, h);
+        }
     }
 }
 
 // .. of the part that ends at `q`, if it is an atom.
-fn why_text(text: &[u8], rows: &[u32], n: usize, cells: &[u32], bytes: &[u8], q: usize) {
-    if q == 0 {
-        return;
-    }
-    if code(cells, q - 1) == Code::ATOM {
-        atom(text, rows, n, bytes, load(cells, q - 1) as usize);
+fn why_text(sheet: Sheet, cells: &[u32], q: usize) {
+    if let Some(p) = q.checked_sub(1) {
+        if code(cells, p) == Code::ATOM {
+            atom(sheet, load(cells, p) as usize);
+        }
     }
 }
 
 // An expression that has a type, `found`, but not the one that was wanted.
-fn misfit(text: &[u8], rows: &[u32], n: usize, bytes: &[u8], j: usize, found: u8) {
+fn misfit(sheet: Sheet, j: usize, found: u8) {
     write::text(b"This is ");
     type_words::kind(found);
     write::text(b"; ");
-    wanted(text, rows, n, bytes, j);
+    wanted(sheet, j);
     write::text(b".");
 }
 
 // The type of the operand of the part `p` behind which there are k others.
 fn given_at(cells: &[u32], letters: &[u8], p: usize, k: usize) {
-    let q = operand(cells, p, k);
-    if q == 0 {
-        return;
+    if let Some(q) = operand(cells, p, k).checked_sub(1) {
+        type_words::kind(byte(letters, q));
     }
-    type_words::kind(byte(letters, q - 1));
 }
 
 // What stands between two operands, the later one with k others behind it.
 fn between(k: usize) {
-    if 1 < k {
-        write::text(b", ");
-    }
-    if k == 1 {
-        write::text(b" and ");
+    match k {
+        0 => {}
+        1 => write::text(b" and "),
+        _ => write::text(b", "),
     }
 }
 
@@ -92,22 +91,17 @@ fn between(k: usize) {
 fn given(cells: &[u32], letters: &[u8], p: usize, c: usize) {
     if c == 0 {
         write::text(b"nothing");
-        return;
     }
-    let mut k = c;
-    while 0 < k {
-        k -= 1;
+    for k in (0..c).rev() {
         given_at(cells, letters, p, k);
         between(k);
     }
 }
 
 // Why each operand that is an atom is a text.
-fn why_texts(text: &[u8], rows: &[u32], n: usize, cells: &[u32], bytes: &[u8], p: usize) {
-    let mut k = count(cells, p);
-    while 0 < k {
-        k -= 1;
-        why_text(text, rows, n, cells, bytes, operand(cells, p, k));
+fn why_texts(sheet: Sheet, cells: &[u32], p: usize) {
+    for k in (0..count(cells, p)).rev() {
+        why_text(sheet, cells, operand(cells, p, k));
     }
 }
 
@@ -158,17 +152,15 @@ fn spell(
 )
     ensures { Spelt (table cells.now bytes.now) names.now types.now from to letters.old letters.new }
 {
-    let mut p = from;
-    while p < to {
+    for p in from..to {
         if letters.len() <= p {
             return;
         }
         letters[p] = letter(cells, bytes, names, types, p + 1);
-        p += 1;
     }
 }
 
-// .. and the first of them that has no type, or `to`.
+// .. and the first of them that has no type.
 fn settle(
     rows: &[u32],
     n: usize,
@@ -177,53 +169,48 @@ fn settle(
     from: usize,
     to: usize,
     letters: &mut [u8],
-) -> usize
-    ensures { Settled rows.now n (table cells.now bytes.now) from to letters.old letters.new result }
+) -> Option<usize>
+    ensures { Settled rows.now n (table cells.now bytes.now) from to letters.old letters.new (unwrap_or result to) }
 {
     if ROWS < n {
-        return to;
+        return None;
     }
     let mut names = [0u32; DataItems::LIMIT];
     let mut types = [0u8; DataItems::LIMIT];
     let m = gather(rows, n, &mut names, &mut types);
     if DataItems::LIMIT < m {
-        return to;
+        return None;
     }
     spell(cells, bytes, &names[..m], &types, from, to, letters);
     untyped(cells, bytes, &names[..m], &types, from, to)
 }
 
 // The sentence on the expression of the row `j` that ends at `e`, and whose first part without a type is `p`.
-fn tell(
-    text: &[u8],
-    rows: &[u32],
-    n: usize,
-    cells: &[u32],
-    bytes: &[u8],
-    letters: &[u8],
-    j: usize,
-    e: usize,
-    p: usize,
-) {
-    if p < e {
-        part(cells, bytes, letters, p);
-        why_texts(text, rows, n, cells, bytes, p);
-        return;
+fn tell(sheet: Sheet, cells: &[u32], letters: &[u8], j: usize, e: usize, p: Option<usize>) {
+    if let Some(p) = p {
+        part(cells, sheet.bytes, letters, p);
+        why_texts(sheet, cells, p);
+    } else if let Some(last) = e.checked_sub(1) {
+        misfit(sheet, j, byte(letters, last));
+        why_text(sheet, cells, e);
     }
-    if e == 0 {
-        return;
-    }
-    misfit(text, rows, n, bytes, j, byte(letters, e - 1));
-    why_text(text, rows, n, cells, bytes, e);
 }
 
-// The sentence on the expression of the row `j`; answers its first part without a type, or where it ends.
-pub fn why(text: &[u8], rows: &[u32], n: usize, cells: &[u32], bytes: &[u8], j: usize) -> usize
-    ensures { FirstUntyped rows.now n (table cells.now bytes.now) (cell_of rows.now j 4) (cell_of rows.now j 6) result }
+// The sentence on the expression of the row `j`; answers its first part without a type.
+pub fn why(sheet: Sheet, cells: &[u32], j: usize) -> Option<usize>
+    ensures { FirstUntyped sheet.entry.rows.now sheet.entry.n (table cells.now sheet.entry.bytes.now) (cell_of sheet.entry.rows.now j 4) (cell_of sheet.entry.rows.now j 6) (unwrap_or result (cell_of sheet.entry.rows.now j 6)) }
 {
     let mut letters = [0u8; Expressions::PARTS];
-    let e = end(rows, j);
-    let p = settle(rows, n, cells, bytes, first_part(rows, j), e, &mut letters);
-    tell(text, rows, n, cells, bytes, &letters, j, e, p);
+    let e = end(sheet.rows, j);
+    let p = settle(
+        sheet.rows,
+        sheet.n,
+        cells,
+        sheet.bytes,
+        first_part(sheet.rows, j),
+        e,
+        &mut letters,
+    );
+    tell(sheet, cells, &letters, j, e, p);
     p
 }

@@ -1,95 +1,96 @@
 // Types and operators in words: how they are called, and what they take by section 11.
 #![tactic(auto)]
 
-use parts::Code;
-use pieces::STDOUT_FILENO;
-
-// The place of a type, given by its letter, among the texts below.
-fn place_of(letter: u8) -> usize {
-    match letter {
-        b'T' => 0,
-        b'I' => 1,
-        b'R' => 2,
-        b'B' => 3,
-        b't' => 4,
-        b'i' => 5,
-        b'r' => 6,
-        b'a' => 7,
-        _ => 8,
-    }
-}
+use parts::{Code, Declared, Family};
+use sentences::write;
 
 // A type, by its letter.
 pub fn kind(letter: u8) {
-    pieces::write(
-        STDOUT_FILENO,
-        b"a text|an integer|a real|a truth value|a list of texts|a list of integers|a list of reals|an empty list|what has no type",
-        place_of(letter),
-    );
+    write::text(match letter {
+        b'T' => b"a text",
+        b'I' => b"an integer",
+        b'R' => b"a real",
+        b'B' => b"a truth value",
+        b't' => b"a list of texts",
+        b'i' => b"a list of integers",
+        b'r' => b"a list of reals",
+        b'a' => b"an empty list",
+        _ => b"what has no type",
+    });
 }
 
 // What a data item takes, by the number of its declared type.
 pub fn declared(d: usize) {
-    pieces::write(
-        STDOUT_FILENO,
-        b"nothing|a text|an integer|a text, for it is boolean|a number, for it is a datetime|a number, for it is a date|a number, for it is a time|a number|a list of texts|a list of integers|a list of numbers|nothing",
-        d,
-    );
+    write::text(match u32::try_from(d) {
+        Ok(Declared::TEXT) => b"a text",
+        Ok(Declared::INTEGER) => b"an integer",
+        Ok(Declared::BOOLEAN) => b"a text, for it is boolean",
+        Ok(Declared::DATETIME) => b"a number, for it is a datetime",
+        Ok(Declared::DATE) => b"a number, for it is a date",
+        Ok(Declared::TIME) => b"a number, for it is a time",
+        Ok(Declared::REAL) => b"a number",
+        Ok(Declared::SETOF_TEXT) => b"a list of texts",
+        Ok(Declared::SETOF_INTEGER) => b"a list of integers",
+        Ok(Declared::SETOF_REAL) => b"a list of numbers",
+        _ => b"nothing",
+    });
 }
 
-// The place of an operator that stands between its operands among the texts below.
-fn sign(c: usize) -> usize {
+// An operator that stands between its operands.
+fn sign(c: usize) -> &'static [u8] {
     match c {
-        Code::PLUS => 0,
-        Code::TIMES => 1,
-        Code::DIVIDE => 2,
-        Code::GREATER => 3,
-        Code::LESS => 4,
-        Code::GREATER_OR_EQUAL => 5,
-        Code::LESS_OR_EQUAL => 6,
-        Code::EQUAL => 7,
-        Code::NOT_EQUAL => 8,
-        Code::AND => 9,
-        Code::OR => 10,
-        Code::INCLUDES => 11,
-        Code::ONEOF => 12,
-        _ => 25,
-    }
-}
-
-// The place of an operator, given by the code of its part.
-fn operator(c: usize) -> usize {
-    match c {
-        Code::IF => 13,
-        Code::ISKNOWN => 14,
-        Code::NOT => 15,
-        Code::COUNT => 16,
-        Code::SUM => 17,
-        Code::MAX => 18,
-        Code::MIN => 19,
-        Code::NTH => 20,
-        Code::IS_DORMANT => 21,
-        Code::IS_IN_PROGRESS => 22,
-        Code::IS_DISCARDED => 23,
-        Code::IS_COMPLETED => 24,
-        _ => sign(c),
+        Code::PLUS => b"+",
+        Code::TIMES => b"*",
+        Code::DIVIDE => b"/",
+        Code::GREATER => b">",
+        Code::LESS => b"<",
+        Code::GREATER_OR_EQUAL => b">=",
+        Code::LESS_OR_EQUAL => b"<=",
+        Code::EQUAL => b"=",
+        Code::NOT_EQUAL => b"!=",
+        Code::AND => b"and",
+        Code::OR => b"or",
+        Code::INCLUDES => b"includes",
+        Code::ONEOF => b"oneof",
+        _ => b"-",
     }
 }
 
 // An operator, by the code of its part; a minus is spelt the same with one operand and with two.
 pub fn spelt(c: usize) {
-    pieces::write(
-        STDOUT_FILENO,
-        b"+|*|/|>|<|>=|<=|=|!=|and|or|includes|oneof|if|isknown|not|count|sum|max|min|nth|is_dormant|is_in_progress|is_discarded|is_completed|-",
-        operator(c),
-    );
+    write::text(match c {
+        Code::IF => b"if",
+        Code::ISKNOWN => b"isknown",
+        Code::NOT => b"not",
+        Code::COUNT => b"count",
+        Code::SUM => b"sum",
+        Code::MAX => b"max",
+        Code::MIN => b"min",
+        Code::NTH => b"nth",
+        Code::IS_DORMANT => b"is_dormant",
+        Code::IS_IN_PROGRESS => b"is_in_progress",
+        Code::IS_DISCARDED => b"is_discarded",
+        Code::IS_COMPLETED => b"is_completed",
+        _ => sign(c),
+    });
 }
 
-// What it takes, by the list of allowed types that its code stands for: the tens of the code.
+// What it takes, by the list of allowed types that its code stands for.
 pub fn takes(c: usize) {
-    pieces::write(
-        STDOUT_FILENO,
-        b"two numbers|two numbers|two numbers|two numbers, two texts, or two lists of the one or the other|two truth values|a list of numbers or texts, and then one number or text|one number or text, and then a list of such|a truth value, and then two values of one type|a number|one value|a truth value|one list|one list of numbers|one list, of numbers or of texts|an integer and then a list|the name of a task, which is a text",
-        c / 10,
-    );
+    write::text(match c / Family::SIZE {
+        0 | Family::ARITHMETIC | Family::DIVIDE => b"two numbers",
+        Family::COMPARISON => b"two numbers, two texts, or two lists of the one or the other",
+        Family::LOGIC => b"two truth values",
+        Family::INCLUDES => b"a list of numbers or texts, and then one number or text",
+        Family::ONEOF => b"one number or text, and then a list of such",
+        Family::IF => b"a truth value, and then two values of one type",
+        Family::NEGATE => b"a number",
+        Family::ISKNOWN => b"one value",
+        Family::NOT => b"a truth value",
+        Family::COUNT => b"one list",
+        Family::SUM => b"one list of numbers",
+        Family::EXTREME => b"one list, of numbers or of texts",
+        Family::NTH => b"an integer and then a list",
+        _ => b"the name of a task, which is a text",
+    });
 }

@@ -1,12 +1,9 @@
--- `settle`: the columns of the data items, and then the parts; no guideline has more rows or items than there is room for.
+-- `settle`: the columns of the data items, and then the parts; no guideline has more items than there is room for.
 use Rattle.std.proofs.Common.{ℕ}
 use Rattle.std.proofs.lemmas.List.{length-replicate}
 use Rattle.parts.specs.Part.{table}
-use Rattle.told_refusal.specs.SettledLaws.{too_long, too_many, settled}
+use Rattle.told_refusal.specs.SettledLaws.{too_many, settled, untyped_or}
 use Rattle.told_refusal.proofs.typed.settle.Goals as goal
-
-pub returns-then-n-gt-ROWS : goal.returns-then-n-gt-ROWS
-returns-then-n-gt-ROWS c g given = too_long c.if-n-gt-ROWS.true given
 
 pub returns-then-m-gt-LIMIT : goal.returns-then-m-gt-LIMIT
 returns-then-m-gt-LIMIT c g given = let a = c.args in too_many c.gather-m.ensures (table a.cells.now a.bytes.now) c.if-m-gt-LIMIT.true given
@@ -14,4 +11,4 @@ returns-then-m-gt-LIMIT c g given = let a = c.args in too_many c.gather-m.ensure
 pub returns : goal.returns
 returns c =
     let a = c.args in
-    settled c.gather-m.ensures (table a.cells.now a.bytes.now) (length-replicate {A = ℕ} 64 0) (length-replicate {A = ℕ} 64 0) c.untyped.ensures c.spell.ensures
+    settled c.gather-m.ensures (table a.cells.now a.bytes.now) (length-replicate {A = ℕ} 64 0) (length-replicate {A = ℕ} 64 0) (untyped_or _ _ _ _ _ _ c.untyped.ensures) c.spell.ensures

@@ -1,0 +1,11 @@
+-- `begun_at`: what `find` gives is the first that passes.
+use Rattle.std.proofs.Common.{rules, tests, ◌≡◌, true, false}
+use Rattle.std.proofs.lemmas.Iterator.{first_from_Range}
+use Rattle.explain_rows.specs.Firsts.{begins_at, first_of}
+use Rattle.explain_rows.proofs.firsts.begun_at.Goals as goal
+
+pub returns : goal.returns
+returns c =
+    let f = begins_at c.args.rows.now c.args.place in
+    first_of f c.args.n c.find.result
+    (first_from_Range _ _ _ _ (λ i. f i ≡ true) (λ i. f i ≡ false) c.find.ensures.ran (λ i q k. search (rules, tests)) (λ i q k. search (rules, tests)))

@@ -1,0 +1,11 @@
+-- `named`: what `find` gives is the first that passes.
+use Rattle.std.proofs.Common.{rules, tests, ◌≡◌, true, false}
+use Rattle.std.proofs.lemmas.Iterator.{first_from_Range}
+use Rattle.explain_rows.specs.Firsts.{named-at, first_of}
+use Rattle.explain_rows.proofs.firsts.named.Goals as goal
+
+pub returns : goal.returns
+returns c =
+    let f = named-at c.args.rows.now c.args.bytes.now c.args.sort c.args.folded c.args.h in
+    first_of f c.args.to c.find.result
+    (first_from_Range _ _ _ _ (λ i. f i ≡ true) (λ i. f i ≡ false) c.find.ensures.ran (λ i q k. search (rules, tests)) (λ i q k. search (rules, tests)))

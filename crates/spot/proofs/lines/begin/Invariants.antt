@@ -1,0 +1,6 @@
+-- `begin`: going back from the place, no newline is passed.
+use Rattle.spot.specs.Lines.{Unbroken}
+use Rattle.spot.proofs.lines.begin.Given as goal
+
+abbrev pub invariant-loop-i : goal.invariant-loop-i
+invariant-loop-i l = Unbroken l.text l.i l.place

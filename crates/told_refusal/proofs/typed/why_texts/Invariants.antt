@@ -1,8 +1,0 @@
--- `why_texts`: the measure is how many operands are left.
-use Rattle.told_refusal.proofs.typed.why_texts.Given as goal
-
-abbrev pub invariant-loop-k : goal.invariant-loop-k
-invariant-loop-k l = Unit {0}
-
-abbrev pub decreases-loop-k : goal.decreases-loop-k
-decreases-loop-k l = l.k
