@@ -7,9 +7,9 @@ use crate::nearness;
 use blocks::{cell, put_cell};
 use separated::field;
 
-// Columns are counted from 1.
+// Columns are counted from 1; what stands behind the last counts to it.
 pub fn counted(i: usize) -> u64 {
-    i.saturating_add(1) as u64
+    i.min(Column::LIMIT - 1) as u64 + 1
 }
 
 fn head(i: usize, name: &[u8]) {
