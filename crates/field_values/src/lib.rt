@@ -14,6 +14,7 @@ use typed_value::{Slip, Typed};
 pub struct Refusal {}
 
 // The number of a refusal.
+// stays: promise of FieldRead, which has these numbers
 impl Refusal {
     pub const NONE: u8 = 0;
 

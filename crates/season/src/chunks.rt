@@ -87,6 +87,7 @@ fn in_chunk(
         at: from,
         work: begun,
     };
+    // stays: no plainer, a turn goes on by as many bytes as a record has
     while p.at < chunk.len() {
         p = step(chunk, p, tables, waits, texts, columns, kept, ends, s, out);
     }

@@ -10,6 +10,7 @@ use separated::field;
 use state::cell;
 
 // The data item of the column `i`, which has its number and one; none for a label, which has 0.
+// stays: promise of Entered, which has the cell of the plan at this number, also where it is none
 pub fn item_of(columns: &[u32], i: usize) -> usize
     ensures { result ≡ series.item_of columns.now i }
 {

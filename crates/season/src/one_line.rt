@@ -25,6 +25,7 @@ pub struct Season {
 }
 
 // The first refusal of a line: its number, none if there is none, and the handle of its data item's name.
+// stays: promise of AllEntered, which has both, also where there is none
 #[derive(Drop)]
 struct First {
     number: u8,

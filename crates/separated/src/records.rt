@@ -10,6 +10,7 @@ use crate::machine::{Act, Byte, Mode, kind_of, step};
 pub struct Fault {}
 
 // Why a line is no record.
+// stays: promise of begun, spoilt_by and fault_in, which have these numbers
 impl Fault {
     pub const NONE: u8 = 0;
 
