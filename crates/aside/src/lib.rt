@@ -21,29 +21,19 @@ fn byte(b: u8) {
 // As many bytes of a field as are shown.
 const MOST: usize = 60;
 
-fn cut() {
-    text(b"..");
-}
-
 // Bytes, made harmless, and two points where they are cut.
 pub fn bytes(field: &[u8]) {
-    let mut i = 0usize;
-    while i < field.len() {
-        if MOST <= i {
-            cut();
-            return;
-        }
-        byte(shown(field[i]));
-        i += 1;
+    for b in field.iter().take(MOST) {
+        byte(shown(*b));
+    }
+    if MOST < field.len() {
+        text(b"..");
     }
 }
 
 // The text with the handle `h`.
 pub fn name(texts: &[u8], h: usize) {
-    let n = h % parts::HANDLE;
-    let mut i = 0usize;
-    while i < n {
+    for i in 0..h % parts::HANDLE {
         byte(shown(at(texts, h / parts::HANDLE, i)));
-        i += 1;
     }
 }

@@ -13,30 +13,22 @@ const YES: usize = 1;
 fn is_requested(state: &[u32], d: usize) -> bool
     ensures { result ≡ asked.requested state.now d }
 {
-    if cell(state, Requested::TAGS, d) != Tag::TRUTH {
-        return false;
-    }
-    cell(state, Requested::NUMBERS, d) == 1
+    cell(state, Requested::TAGS, d) == Tag::TRUTH && cell(state, Requested::NUMBERS, d) == 1
 }
 
 // Whether the task `t` is an enquiry in progress.
 fn is_asking(plan: &[u32], state: &[u32], t: usize) -> bool
     ensures { result ≡ asked.asking plan.now state.now t }
 {
-    if cell(plan, Plan::CLASS, t) != Class::ENQUIRY {
-        return false;
-    }
-    row_is(state, Property::STATE, t, Tag::STATE, State::IN_PROGRESS)
+    cell(plan, Plan::CLASS, t) == Class::ENQUIRY
+        && row_is(state, Property::STATE, t, Tag::STATE, State::IN_PROGRESS)
 }
 
 // The number of a source, within its limit.
 fn bounded(n: usize) -> usize
     ensures { (result < 128) × (result ≡ asked.bounded n) }
 {
-    if n < Sources::LIMIT {
-        return n;
-    }
-    0
+    if n < Sources::LIMIT { n } else { 0 }
 }
 
 // Whether the source `k` behind the source `first` is a mandatory one for the data item.
@@ -44,24 +36,20 @@ fn is_source(plan: &[u32], first: usize, k: usize, d: usize) -> bool
     requires { first < 128 }
     ensures { result ≡ asked.source_of plan.now first d k }
 {
-    if cell(plan, Plan::MANDATORY + first, k) != YES {
-        return false;
-    }
-    cell(plan, Plan::SOURCE_ITEM + first, k) == d
+    cell(plan, Plan::MANDATORY + first, k) == YES && cell(plan, Plan::SOURCE_ITEM + first, k) == d
 }
 
 // Whether the task `t` has such a source.
+#[tactic(auto, using(crate::specs::AskedLaws::any_past, crate::specs::AskedLaws::any_here, crate::specs::AskedLaws::any_later, crate::specs::AskedLaws::any_all))]
 fn has_source(plan: &[u32], t: usize, d: usize) -> bool
     ensures { result ≡ asked.has_source plan.now d t }
 {
     let first = bounded(cell(plan, Plan::FIRST_SOURCE, t));
     let n = cell(plan, Plan::SOURCES, t);
-    let mut k = 0usize;
-    while k < n {
+    for k in 0..n {
         if is_source(plan, first, k, d) {
             return true;
         }
-        k += 1;
     }
     false
 }
@@ -69,22 +57,18 @@ fn has_source(plan: &[u32], t: usize, d: usize) -> bool
 fn waits_for(plan: &[u32], state: &[u32], t: usize, d: usize) -> bool
     ensures { result ≡ asked.waits_for plan.now state.now d t }
 {
-    if is_asking(plan, state, t) {
-        return has_source(plan, t, d);
-    }
-    false
+    is_asking(plan, state, t) && has_source(plan, t, d)
 }
 
 // Whether any task waits for it.
+#[tactic(auto, using(crate::specs::AskedLaws::any_past, crate::specs::AskedLaws::any_here, crate::specs::AskedLaws::any_later, crate::specs::AskedLaws::any_all))]
 fn by_any(plan: &[u32], state: &[u32], d: usize) -> bool
     ensures { result ≡ asked.by_any plan.now state.now d }
 {
-    let mut t = 0usize;
-    while t < Tasks::LIMIT {
+    for t in 0..Tasks::LIMIT {
         if waits_for(plan, state, t, d) {
             return true;
         }
-        t += 1;
     }
     false
 }
@@ -93,8 +77,5 @@ fn by_any(plan: &[u32], state: &[u32], d: usize) -> bool
 pub fn is_asked(plan: &[u32], state: &[u32], d: usize) -> bool
     ensures { result ≡ asked.asked plan.now state.now d }
 {
-    if is_requested(state, d) {
-        return by_any(plan, state, d);
-    }
-    false
+    is_requested(state, d) && by_any(plan, state, d)
 }

@@ -14,6 +14,7 @@ use typed_value::{Slip, Typed};
 pub struct Refusal {}
 
 // The number of a refusal.
+// stays: promise of FieldRead, which has these numbers
 impl Refusal {
     pub const NONE: u8 = 0;
 
@@ -26,42 +27,24 @@ impl Refusal {
 fn is_text(declared: u32) -> bool
     ensures { result ≡ reading.text_type declared }
 {
-    if declared == Declared::TEXT {
-        return true;
-    }
-    declared == Declared::BOOLEAN
+    declared == Declared::TEXT || declared == Declared::BOOLEAN
 }
 
 // Whether they are numbers with digits behind the point, or lists of these.
 fn is_real(declared: u32) -> bool
     ensures { result ≡ reading.real_type declared }
 {
-    if declared < Declared::DATETIME {
-        return false;
-    }
-    if declared < Declared::SETOF_TEXT {
-        return true;
-    }
-    declared == Declared::SETOF_REAL
+    matches!(
+        declared,
+        Declared::DATETIME..=Declared::REAL | Declared::SETOF_REAL
+    )
 }
 
 // Whether they are lists.
 fn is_list(declared: u32) -> bool
     ensures { result ≡ reading.list-type declared }
 {
-    if declared < Declared::SETOF_TEXT {
-        return false;
-    }
-    declared <= Declared::SETOF_REAL
-}
-
-fn limit_if(fitting: bool) -> u8
-    ensures { result ≡ reading.limit_if fitting }
-{
-    if fitting {
-        return Refusal::LIMIT;
-    }
-    Refusal::TYPE
+    matches!(declared, Declared::SETOF_TEXT..=Declared::SETOF_REAL)
 }
 
 // The number of the refusal of what can't be read: beyond a limit, if it would be of the type, else not of the type.
@@ -69,16 +52,9 @@ fn number_of(slip: Slip, declared: u32) -> u8
     ensures { result ≡ reading.refusal_by slip declared }
 {
     match slip {
-        Slip::Decimals => limit_if(is_real(declared)),
-        Slip::Many => limit_if(is_list(declared)),
-        Slip::Fine => Refusal::TYPE,
-        Slip::Missing => Refusal::TYPE,
-        Slip::Bare => Refusal::TYPE,
-        Slip::Unclosed => Refusal::TYPE,
-        Slip::Digits => Refusal::TYPE,
-        Slip::Separator => Refusal::TYPE,
-        Slip::Nested => Refusal::TYPE,
-        Slip::Behind => Refusal::TYPE,
+        Slip::Decimals if is_real(declared) => Refusal::LIMIT,
+        Slip::Many if is_list(declared) => Refusal::LIMIT,
+        _ => Refusal::TYPE,
     }
 }
 
@@ -88,9 +64,9 @@ fn text(declared: u32, field: &[u8], tags: &mut [u32], numbers: &mut [i64], byte
 {
     if is_word(field, 0, field.len(), b"unknown") {
         typed_value::put_unknown(tags, numbers);
-        return Refusal::NONE;
+    } else {
+        typed_value::put_text(field, tags, numbers, bytes);
     }
-    typed_value::put_text(field, tags, numbers, bytes);
     Refusal::NONE
 }
 
@@ -115,7 +91,8 @@ pub fn read(
     ensures { FieldRead declared tags.old numbers.old bytes.old tags.new numbers.new bytes.new result (field_as declared field.now) }
 {
     if is_text(declared) {
-        return text(declared, field, tags, numbers, bytes);
+        text(declared, field, tags, numbers, bytes)
+    } else {
+        typed(declared, field, tags, numbers, bytes)
     }
-    typed(declared, field, tags, numbers, bytes)
 }

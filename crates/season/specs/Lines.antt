@@ -1,5 +1,5 @@
 -- The lines of a sheet: how far reading and answering is, and the tables that load left, one behind the other. Definitions only.
-use Rattle.std.specs.Prelude.{◌≡◌, Bool, true, cond, not, List, ◌++◌, ℕ, ◌+◌, ◌/◌, ◌<◌, eqb, ltb, get_or, length}
+use Rattle.std.specs.Prelude.{◌≡◌, Bool, true, cond, not, List, ◌++◌, ℕ, ◌+◌, ◌/◌, ◌<◌, eqb, ltb, get_or}
 use Rattle.separated.specs.declared.records.Scan.{Scan}
 use Rattle.separated.specs.Records.{begun}
 use Rattle.season_answer.specs.Fields.{no_labels_written, blanks_written, unread_written}

@@ -1,6 +1,6 @@
 -- Three copies one behind the other join the tables: none touches what the ones before it wrote.
 use Rattle.std.specs.Prelude.{◌≡◌, List, ℕ, ◌+◌, ◌≤◌, ◌<◌, get_or, length}
-use Rattle.std.proofs.Common.{sym, ap, subst, ◌∙◌, inl, inr, arith}
+use Rattle.std.proofs.Common.{sym, ap, subst, ◌∙◌, inl, arith}
 use Rattle.blocks.specs.Blocks.{Copied}
 use Rattle.season.specs.Lines.{Joined, work}
 use Rattle.season.specs.declared.records.Work.{Work}

@@ -6,10 +6,9 @@ const STDOUT_FILENO: i32 = 1;
 
 // Writes the first `o` bytes of the buffer.
 pub fn flush(out: &[u8], o: usize) {
-    if out.len() < o {
-        return;
+    if let Some(full) = out.get(..o) {
+        io::write_all(STDOUT_FILENO, full);
     }
-    io::write_all(STDOUT_FILENO, &out[..o]);
 }
 
 // Where the next line goes.

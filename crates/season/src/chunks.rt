@@ -9,7 +9,7 @@ use crate::one_line::Season;
 use crate::records::Work;
 use crate::{first_line, records};
 use limits::WaitTable;
-use separated::Scan;
+use separated::{Scan, Taken};
 use std::io::{Read, Stdin};
 
 const STDIN_FILENO: i32 = 0;
@@ -29,16 +29,12 @@ fn taken(
 ) -> Work
     ensures { sheet.Took tables.now texts.now waits (line columns.now s.many kept.now ends.now s.confirms) s.separator w scan out.old out.new result }
 {
-    let now = Work {
-        scan: scan,
-        o: w.o,
-        line: w.line,
-        answered: w.answered,
-    };
+    let now = Work { scan, ..w };
     if scan.done {
-        return records::answer(tables, waits, texts, columns, kept, ends, s, now, out);
+        records::answer(tables, waits, texts, columns, kept, ends, s, now, out)
+    } else {
+        now
     }
-    now
 }
 
 // A place in a chunk, and how far it is.
@@ -64,13 +60,12 @@ fn step(
     requires { p.at < length chunk.now }
     ensures { p.at < result.at }
 {
-    let w = p.work;
-    let begun = w.scan;
-    let t = separated::take(chunk, p.at, begun, s.separator, kept, ends);
-    let scan = t.scan;
+    let t = separated::take(chunk, p.at, p.work.scan, s.separator, kept, ends);
     Place {
         at: t.at,
-        work: taken(tables, waits, texts, columns, kept, ends, s, w, scan, out),
+        work: taken(
+            tables, waits, texts, columns, kept, ends, s, p.work, t.scan, out,
+        ),
     }
 }
 
@@ -92,6 +87,7 @@ fn in_chunk(
         at: from,
         work: begun,
     };
+    // stays: no plainer, a turn goes on by as many bytes as a record has
     while p.at < chunk.len() {
         p = step(chunk, p, tables, waits, texts, columns, kept, ends, s, out);
     }
@@ -121,53 +117,29 @@ fn begin(
 ) -> Begun {
     let plan = plan_of(tables);
     let separator = separated::told_by(chunk);
-    let t = first_line::take(chunk, separator, kept, ends);
-    let scan = t.scan;
+    let Taken { at, scan } = first_line::take(chunk, separator, kept, ends);
     let many = scan.fields;
     let season = Season {
-        many: many,
-        separator: separator,
-        confirms: confirms,
+        many,
+        separator,
+        confirms,
     };
     let well = first_line::is_well(scan, plan, texts, kept, ends, columns);
     let o = first_line::answer(well, plan, texts, columns, many, kept, ends, separator, out);
     Begun {
-        well: well,
+        well,
         n: chunk.len(),
-        at: t.at,
-        season: season,
+        at,
+        season,
         work: records::begin(scan.lines, o, 0),
     }
-}
-
-// A chunk of n bytes is to be answered from a place on. A proved loop has to end, so the turns are counted down, from a number that no input
-// uses up; none is left at the end of the input.
-#[derive(Drop)]
-pub struct Turn {
-    left: u64,
-    at: usize,
-    n: usize,
-    work: Work,
-}
-
-fn fewer(left: u64, n: usize) -> u64
-    requires { 0 < left }
-    ensures { result < left }
-{
-    if n == 0 {
-        return 0;
-    }
-    left - 1
 }
 
 // Reads as much as there is, at most a chunk: the number of bytes, none at the end.
 fn read(stdin: &mut Stdin, chunk: &mut [u8]) -> usize
     ensures { result ≤ length chunk.new }
 {
-    match stdin.read(chunk) {
-        Ok(n) => n,
-        Err(_) => 0,
-    }
+    stdin.read(chunk).unwrap_or(0)
 }
 
 // Writes what stands in the buffer, which then has room again.
@@ -175,54 +147,7 @@ fn emptied(out: &[u8], w: Work) -> Work
     ensures { result ≡ sheet.written_out w }
 {
     flush(out, w.o);
-    let scan = w.scan;
-    Work {
-        scan: scan,
-        o: 0,
-        line: w.line,
-        answered: w.answered,
-    }
-}
-
-// Answers the lines of the chunk, writes the answers, and reads the next.
-fn next(
-    stdin: &mut Stdin,
-    chunk: &mut [u8],
-    tables: &[u32],
-    waits: WaitTable,
-    texts: &[u8],
-    columns: &[u32],
-    kept: &mut [u8],
-    ends: &mut [usize],
-    s: Season,
-    t: Turn,
-    out: &mut [u8],
-) -> Turn
-    requires { (0 < t.left) × (t.n ≤ length chunk.old) }
-    ensures { (result.left < t.left) × (result.n ≤ length chunk.new) }
-{
-    let n = t.n;
-    let begun = t.work;
-    let w = in_chunk(
-        &chunk[..n],
-        t.at,
-        tables,
-        waits,
-        texts,
-        columns,
-        kept,
-        ends,
-        s,
-        begun,
-        out,
-    );
-    let m = read(stdin, chunk);
-    Turn {
-        left: fewer(t.left, m),
-        at: 0,
-        n: m,
-        work: emptied(out, w),
-    }
+    Work { o: 0, ..w }
 }
 
 // The last line, where it does not end with a newline.
@@ -237,22 +162,22 @@ fn end(
     w: Work,
     out: &mut [u8],
 ) {
-    let scan = w.scan;
-    if !scan.began {
+    if !w.scan.began {
         flush(out, w.o);
         return;
     }
-    let last = separated::finish(scan, ends);
+    let last = separated::finish(w.scan, ends);
     let done = taken(tables, waits, texts, columns, kept, ends, s, w, last, out);
     flush(out, done.o);
 }
 
-// The lines behind the first, from a place of the first chunk on.
+// The lines behind the first, from a place of the first chunk on, which has `n` bytes: answers the lines of a chunk, reads the next, and writes
+// the answers. A proved loop has to end, so the chunks are counted, up to a number that no input uses up.
 fn lines(
     stdin: &mut Stdin,
     chunk: &mut [u8],
-    n: usize,
-    at: usize,
+    mut n: usize,
+    mut at: usize,
     tables: &[u32],
     waits: WaitTable,
     texts: &[u8],
@@ -265,18 +190,29 @@ fn lines(
 ) -> Work
     requires { n ≤ length chunk.old }
 {
-    let mut t = Turn {
-        left: u64::MAX,
-        at: at,
-        n: n,
-        work: begun,
-    };
-    while 0 < t.left {
-        t = next(
-            stdin, chunk, tables, waits, texts, columns, kept, ends, s, t, out,
+    let mut work = begun;
+    for _ in 0..u64::MAX {
+        work = in_chunk(
+            &chunk[..n],
+            at,
+            tables,
+            waits,
+            texts,
+            columns,
+            kept,
+            ends,
+            s,
+            work,
+            out,
         );
+        n = read(stdin, chunk);
+        at = 0;
+        work = emptied(out, work);
+        if n == 0 {
+            break;
+        }
     }
-    t.work
+    work
 }
 
 // Reads the first chunk, and in it the first line.
@@ -316,14 +252,18 @@ fn behind(
     ends: &mut [usize],
     out: &mut [u8],
 ) {
-    let n = b.n;
+    let Begun {
+        n,
+        at,
+        season: s,
+        work,
+        ..
+    } = b;
     if chunk.len() < n {
         return;
     }
-    let s = b.season;
-    let begun = b.work;
     let w = lines(
-        stdin, chunk, n, b.at, tables, waits, texts, columns, kept, ends, s, begun, out,
+        stdin, chunk, n, at, tables, waits, texts, columns, kept, ends, s, work, out,
     );
     end(tables, waits, texts, columns, kept, ends, s, w, out);
 }

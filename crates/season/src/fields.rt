@@ -10,14 +10,12 @@ use separated::field;
 use state::cell;
 
 // The data item of the column `i`, which has its number and one; none for a label, which has 0.
+// stays: promise of Entered, which has the cell of the plan at this number, also where it is none
 pub fn item_of(columns: &[u32], i: usize) -> usize
     ensures { result ≡ series.item_of columns.now i }
 {
     let c = cell(columns, 0, i);
-    if c == 0 {
-        return DataItems::LIMIT;
-    }
-    c - 1
+    if c == 0 { DataItems::LIMIT } else { c - 1 }
 }
 
 // Answers with the field `i`, if an enquiry waits for it and it has a value; whether that was done.
@@ -36,14 +34,14 @@ fn answer_one(
     if DataItems::LIMIT <= d {
         return false;
     }
-    if is_asked(plan, state, d) {
-        let f = field(kept, ends, i);
-        if f.len() == 0 {
-            return false;
-        }
-        return add(texts, plan, state, d as u32, f) == Refusal::NONE;
+    if !is_asked(plan, state, d) {
+        return false;
     }
-    false
+    let f = field(kept, ends, i);
+    if f.len() == 0 {
+        return false;
+    }
+    add(texts, plan, state, d as u32, f) == Refusal::NONE
 }
 
 // Answers with every such field; whether there was one.
@@ -59,11 +57,9 @@ pub fn answer_asked(
     ensures { series.AllAnswered columns.now kept.now ends.now plan.now texts.old state.old many texts.new state.new result }
 {
     let mut any = false;
-    let mut i = 0usize;
-    while i < many {
+    for i in 0..many {
         let one = answer_one(plan, columns, kept, ends, i, texts, state);
-        any = waits::either(any, one);
-        i += 1;
+        any = any || one;
     }
     any
 }

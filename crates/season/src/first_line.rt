@@ -12,19 +12,10 @@ use separated::{Fault, Scan, Taken};
 fn behind_mark(chunk: &[u8]) -> usize
     ensures { result ≡ behind_mark chunk.now }
 {
-    if chunk.len() < 3 {
-        return 0;
+    match chunk {
+        [0xef, 0xbb, 0xbf, ..] => 3,
+        _ => 0,
     }
-    if chunk[0] != 239 {
-        return 0;
-    }
-    if chunk[1] != 187 {
-        return 0;
-    }
-    if chunk[2] != 191 {
-        return 0;
-    }
-    3
 }
 
 // The record that the first chunk begins with; a shorter chunk than the buffer is all of the sheet.
@@ -39,13 +30,12 @@ pub fn take(chunk: &[u8], separator: u8, kept: &mut [u8], ends: &mut [usize]) ->
         kept,
         ends,
     );
-    let scan = t.scan;
-    if scan.done {
+    if t.scan.done {
         return t;
     }
     Taken {
         at: t.at,
-        scan: separated::finish(scan, ends),
+        scan: separated::finish(t.scan, ends),
     }
 }
 
@@ -53,15 +43,15 @@ pub fn take(chunk: &[u8], separator: u8, kept: &mut [u8], ends: &mut [usize]) ->
 fn is_line(scan: Scan) -> bool
     ensures { result ≡ is_line scan }
 {
-    if scan.began {
-        if scan.fault != Fault::NONE {
-            reports::fault(1, scan.wrong, scan.fault);
-            return false;
-        }
-        return true;
+    if !scan.began {
+        reports::no_heading();
+        return false;
     }
-    reports::no_heading();
-    false
+    if scan.fault != Fault::NONE {
+        reports::fault(1, scan.wrong, scan.fault);
+        return false;
+    }
+    true
 }
 
 // Whether it names the columns of a sheet for the guideline; what is wrong is told.
@@ -75,14 +65,14 @@ pub fn is_well(
 ) -> bool
     ensures { (result ≡ well_line scan plan.now texts.now kept.now ends.now columns.old) × (columns.new ≡ columns_read scan plan.now texts.now kept.now ends.now columns.old) }
 {
-    if is_line(scan) {
-        if season_answer::read_columns(plan, texts, kept, ends, scan.fields, columns) {
-            return true;
-        }
-        reports::refused();
+    if !is_line(scan) {
         return false;
     }
-    false
+    let well = season_answer::read_columns(plan, texts, kept, ends, scan.fields, columns);
+    if !well {
+        reports::refused();
+    }
+    well
 }
 
 // The first line of the answer, if all is well.
@@ -100,7 +90,8 @@ pub fn answer(
     ensures { Headed well plan.now texts.now columns.now many kept.now ends.now separator out.old out.new result }
 {
     if well {
-        return heading(plan, texts, columns, many, kept, ends, separator, out, 0);
+        heading(plan, texts, columns, many, kept, ends, separator, out, 0)
+    } else {
+        0
     }
-    0
 }

@@ -22,6 +22,7 @@ impl Cells {
     pub const TEXTS: usize = load::Texts::LEAST;
 }
 
+// stays: promise of LineAnswered, which has the three in one list
 pub fn join(parts: &[u32], plan: &[u32], state: &[u32], tables: &mut [u32])
     ensures { 8688 ≤ length tables.old → Joined parts.now plan.now state.now tables.new }
 {

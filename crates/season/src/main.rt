@@ -26,10 +26,7 @@ const GUIDELINE: i32 = 3;
 
 fn confirms(rt: HostRuntime) -> bool {
     let mut argument = [0u8; 16];
-    let n = match rt.arg(1, &mut argument) {
-        Ok(n) => n,
-        Err(_) => 0,
-    };
+    let n = rt.arg(1, &mut argument).unwrap_or(0);
     typed_value::lexemes::is_word(&argument, 0, n, b"--confirm")
 }
 
@@ -90,15 +87,10 @@ fn open(rt: HostRuntime, text: &[u8]) {
     }
 }
 
-fn open_first(rt: HostRuntime, text: &[u8], n: usize) {
-    if text.len() < n {
-        return;
-    }
-    open(rt, &text[..n]);
-}
-
 fn main(rt: HostRuntime) {
     let mut text = io::large_buffer();
     let n = io::read_full(GUIDELINE, &mut text);
-    open_first(rt, &text, n);
+    if let Some(text) = text.get(..n) {
+        open(rt, text);
+    }
 }

@@ -25,6 +25,7 @@ pub struct Season {
 }
 
 // The first refusal of a line: its number, none if there is none, and the handle of its data item's name.
+// stays: promise of AllEntered, which has both, also where there is none
 #[derive(Drop)]
 struct First {
     number: u8,
@@ -33,10 +34,9 @@ struct First {
 
 // Tells the refusal of the field `f` in the column `i`, if there is one.
 fn tell(line: u64, i: usize, texts: &[u8], name: usize, number: u8, f: &[u8], declared: u32) {
-    if number == Refusal::NONE {
-        return;
+    if number != Refusal::NONE {
+        reports::value(line, i, texts, name, number, f, declared);
     }
-    reports::value(line, i, texts, name, number, f, declared);
 }
 
 // Adds the field `i`: the number of its refusal, which is told, or none.
@@ -57,27 +57,21 @@ fn add_field(
     if DataItems::LIMIT <= d {
         return First {
             number: Refusal::NONE,
-            name: name,
+            name,
         };
     }
     let f = field(kept, ends, i);
     let number = one_value::add(texts, plan, state, d as u32, f);
     let declared = blocks::cell(plan, Plan::ITEM_TYPE + d);
     tell(line, i, texts, name, number, f, declared);
-    First {
-        number: number,
-        name: name,
-    }
+    First { number, name }
 }
 
 // The first of two.
 fn earlier(a: First, b: First) -> First
     ensures { (result.number ≡ answers.earlier a.number a.number b.number) × (result.name ≡ answers.earlier a.number a.name b.name) }
 {
-    if a.number != Refusal::NONE {
-        return a;
-    }
-    b
+    if a.number != Refusal::NONE { a } else { b }
 }
 
 // Adds the fields of the first `many` columns.
@@ -97,11 +91,9 @@ fn add_fields(
         number: Refusal::NONE,
         name: 0,
     };
-    let mut i = 0usize;
-    while i < many {
+    for i in 0..many {
         let one = add_field(plan, columns, kept, ends, i, line, texts, state);
         r = earlier(r, one);
-        i += 1;
     }
     r
 }

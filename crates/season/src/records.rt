@@ -23,15 +23,6 @@ pub struct Work {
 // So many lines take about a second.
 const STRIDE: u64 = 8_192;
 
-fn one_more(n: u64) -> u64
-    ensures { result ≡ sheet.one_more n }
-{
-    if n == u64::MAX {
-        return n;
-    }
-    n + 1
-}
-
 fn tell_progress(answered: u64) {
     if answered % STRIDE == 0 {
         reports::progress(answered);
@@ -44,9 +35,9 @@ pub fn begin(lines: u64, o: usize, answered: u64) -> Work
 {
     Work {
         scan: separated::begin(lines),
-        o: o,
-        line: one_more(lines),
-        answered: answered,
+        o,
+        line: lines.saturating_add(1),
+        answered,
     }
 }
 
@@ -79,8 +70,7 @@ fn answered_at(
     ensures { RecordAnswered tables.now texts.now waits (line columns.now s.many kept.now ends.now s.confirms) s.separator w.scan out.old out.new (sheet.room_at (length out.old) w.o) result }
 {
     let from = room(out, w.o);
-    let scan = w.scan;
-    if is_spoilt(scan, w.line, s.many) {
+    if is_spoilt(w.scan, w.line, s.many) {
         return one_line::unread_line(plan_of(tables), columns, s, out, from);
     }
     one_line::answer(
@@ -103,8 +93,7 @@ pub fn answer(
     ensures { (result ≡ sheet.work w.scan.lines result.o (sheet.one_more w.answered)) × RecordAnswered tables.now texts.now waits (line columns.now s.many kept.now ends.now s.confirms) s.separator w.scan out.old out.new (sheet.room_at (length out.old) w.o) result.o }
 {
     let o = answered_at(tables, waits, texts, columns, kept, ends, s, w, out);
-    let answered = one_more(w.answered);
+    let answered = w.answered.saturating_add(1);
     tell_progress(answered);
-    let scan = w.scan;
-    begin(scan.lines, o, answered)
+    begin(w.scan.lines, o, answered)
 }

@@ -1,7 +1,7 @@
 // What is told beside the answer to a sheet, on standard error, and why the status is not 0.
 use field_values::Refusal;
 use parts::Declared;
-use season_answer::Column;
+use season_answer::counted;
 use separated::Fault;
 
 // Why the status is not 0 is written here.
@@ -40,27 +40,18 @@ fn place(line: u64, field: usize) {
     aside::number(counted(field));
 }
 
-// Columns are counted from 1.
-fn counted(i: usize) -> u64 {
-    if i < Column::LIMIT {
-        return i as u64 + 1;
-    }
-    i as u64
-}
-
 fn fault_words(fault: u8) {
-    match fault {
-        Fault::QUOTE_INSIDE => aside::text(
-            b": there is a double quote inside a field that does not begin with one.",
-        ),
-        Fault::BEHIND_QUOTE => aside::text(
-            b": something stands behind the double quote that closes the field.",
-        ),
-        Fault::LONE_RETURN => aside::text(b": there is a carriage return that no newline follows."),
-        Fault::OPEN => aside::text(b": the double quote that begins the field is never closed."),
-        Fault::TOO_LONG => aside::text(b": the line is longer than 16,384 bytes."),
-        _ => aside::text(b": the line has more than 128 fields."),
-    }
+    let words: &[u8] = match fault {
+        Fault::QUOTE_INSIDE => {
+            b": there is a double quote inside a field that does not begin with one."
+        }
+        Fault::BEHIND_QUOTE => b": something stands behind the double quote that closes the field.",
+        Fault::LONE_RETURN => b": there is a carriage return that no newline follows.",
+        Fault::OPEN => b": the double quote that begins the field is never closed.",
+        Fault::TOO_LONG => b": the line is longer than 16,384 bytes.",
+        _ => b": the line has more than 128 fields.",
+    };
+    aside::text(words);
 }
 
 // The line is no record: from this field on, for this reason.
@@ -84,29 +75,31 @@ pub fn fields(line: u64, fields: usize, columns: usize) {
 }
 
 fn type_words(declared: u32) {
-    match declared {
-        Declared::TEXT => aside::text(b"text"),
-        Declared::INTEGER => aside::text(b"integer"),
-        Declared::BOOLEAN => aside::text(b"boolean"),
-        Declared::DATETIME => aside::text(b"datetime"),
-        Declared::DATE => aside::text(b"date"),
-        Declared::TIME => aside::text(b"time"),
-        Declared::REAL => aside::text(b"real"),
-        Declared::SETOF_TEXT => aside::text(b"setof_text"),
-        Declared::SETOF_INTEGER => aside::text(b"setof_integer"),
-        _ => aside::text(b"setof_real"),
-    }
+    let words: &[u8] = match declared {
+        Declared::TEXT => b"text",
+        Declared::INTEGER => b"integer",
+        Declared::BOOLEAN => b"boolean",
+        Declared::DATETIME => b"datetime",
+        Declared::DATE => b"date",
+        Declared::TIME => b"time",
+        Declared::REAL => b"real",
+        Declared::SETOF_TEXT => b"setof_text",
+        Declared::SETOF_INTEGER => b"setof_integer",
+        _ => b"setof_real",
+    };
+    aside::text(words);
 }
 
 // How a value of the type is written.
 fn form(declared: u32) {
-    match declared {
-        Declared::INTEGER => aside::text(b"12 or -3"),
-        Declared::SETOF_TEXT => aside::text(b"[\"wet\", \"dry\"]"),
-        Declared::SETOF_INTEGER => aside::text(b"[12, 3, 15]"),
-        Declared::SETOF_REAL => aside::text(b"[1.5, 20]"),
-        _ => aside::text(b"2.5 or 12"),
-    }
+    let words: &[u8] = match declared {
+        Declared::INTEGER => b"12 or -3",
+        Declared::SETOF_TEXT => b"[\"wet\", \"dry\"]",
+        Declared::SETOF_INTEGER => b"[12, 3, 15]",
+        Declared::SETOF_REAL => b"[1.5, 20]",
+        _ => b"2.5 or 12",
+    };
+    aside::text(words);
 }
 
 fn reason(number: u8, field: &[u8], declared: u32) {

@@ -23,7 +23,7 @@ fn told(ending: u32, k: u32) -> Ended
     ensures { (result.ending ≡ ending) × (result.cycles ≡ k) × (result.cycles ≤ 4294967295) }
 {
     Ended {
-        ending: ending,
+        ending,
         cycles: k as usize,
     }
 }
@@ -59,13 +59,9 @@ fn run_once(
 fn is_waiting(plan: &[u32], state: &[u32], t: usize) -> bool
     ensures { result ≡ is_waiting plan.now state.now t }
 {
-    if cell(plan, Plan::CLASS, t) != Class::ACTION {
-        return false;
-    }
-    if row_is(state, Property::CONFIRMED, t, Tag::TRUTH, 1) {
-        return false;
-    }
-    row_is(state, Property::STATE, t, Tag::STATE, State::IN_PROGRESS)
+    cell(plan, Plan::CLASS, t) == Class::ACTION
+        && !row_is(state, Property::CONFIRMED, t, Tag::TRUTH, 1)
+        && row_is(state, Property::STATE, t, Tag::STATE, State::IN_PROGRESS)
 }
 
 // Confirms it then, whatever the call replies.
@@ -84,11 +80,9 @@ fn confirm(plan: &[u32], state: &mut [u32]) -> bool
     ensures { AllConfirmed plan.now state.old 32 state.new result }
 {
     let mut any = false;
-    let mut t = 0usize;
-    while t < Tasks::LIMIT {
+    for t in 0..Tasks::LIMIT {
         let one = confirm_one(plan, state, t);
-        any = waits::either(any, one);
-        t += 1;
+        any = any || one;
     }
     any
 }
@@ -113,7 +107,7 @@ fn goes_on(
     let answered = answer_asked(plan, columns, many, kept, ends, texts, state);
     if confirms {
         let confirmed = confirm(plan, state);
-        return waits::either(answered, confirmed);
+        return answered || confirmed;
     }
     answered
 }
@@ -134,8 +128,7 @@ pub fn run(
     ensures { Series parts.now plan.now waits (line columns.now many kept.now ends.now confirms) texts.old state.old texts.new state.new result.ending result.cycles }
 {
     let mut cycles = 0usize;
-    let mut n = 0usize;
-    while n < RUNS {
+    for _n in 0..RUNS {
         let e = run_once(parts, texts, plan, waits, state);
         cycles += e.cycles;
         if !goes_on(
@@ -143,13 +136,12 @@ pub fn run(
         ) {
             return Ended {
                 ending: e.ending,
-                cycles: cycles,
+                cycles,
             };
         }
-        n += 1;
     }
     Ended {
         ending: Ending::BOUNDED,
-        cycles: cycles,
+        cycles,
     }
 }

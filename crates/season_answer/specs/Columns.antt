@@ -1,5 +1,5 @@
 -- What the columns of a sheet stand for, by the names in its first line. Definitions only.
-use Rattle.std.specs.Prelude.{Bool, true, false, cond, ◌&&◌, List, [], ◌∷◌, ℕ, zero, suc, ◌+◌, eqb, ltb, get_or, set, length}
+use Rattle.std.specs.Prelude.{Bool, true, false, cond, ◌&&◌, List, [], ◌∷◌, ℕ, zero, suc, ◌+◌, eqb, ltb, get_or, set}
 use Rattle.paper_expressions.proofs.Laws.Search.{alikeb}
 use Rattle.parts.specs.Texts.{text_at_fn}
 use Rattle.separated.specs.Records.{field_of}

@@ -1,5 +1,5 @@
 -- The loops over names and columns, turn by turn.
-use Rattle.std.specs.Prelude.{◌≡◌, refl, Bool, true, false, cond, ◌&&◌, eqb, ltb, get_or, set, length, drop}
+use Rattle.std.specs.Prelude.{◌≡◌, refl, Bool, true, false, cond, ◌&&◌, eqb, get_or, set, length, drop}
 use Rattle.std.proofs.Math.Path.{sym, ap}
 use Rattle.std.proofs.Common.{subst, ◌∙◌, drop_of_length-le, drop-cons, lt-ltb, le-ltb, eq-eqb, ne_eqb}
 use mathlib.Core.List.{List, [], ◌∷◌}
@@ -7,7 +7,7 @@ use Prim.Native.Nat.{ℕ, zero, suc, ◌+◌, ◌-◌, ◌≤◌, ◌<◌}
 use native.Mathlib.Omega.{arith}
 use Rattle.paper_expressions.specs.Bytes.{fold}
 use Rattle.paper_expressions.proofs.Laws.Search.{alikeb}
-use Rattle.parts.specs.Texts.{cells, text_at_fn}
+use Rattle.parts.specs.Texts.{cells}
 use Rattle.season_answer.specs.Columns.{first_from, is_label, by_number, first_with, may_stand, columns_from, all_may}
 
 -- ---- a name

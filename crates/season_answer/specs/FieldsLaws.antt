@@ -1,13 +1,12 @@
 -- Laws of the fields of an answer: loops that append one field after the other, and what fits into the buffers of names.
-use Rattle.std.specs.Prelude.{◌≡◌, Bool, true, false, cond, not, eqb, ltb, get_or, length, take}
+use Rattle.std.specs.Prelude.{◌≡◌, Bool, true, false, cond, not, eqb, get_or, length, take}
 use Rattle.std.proofs.Math.Path.{refl}
 use Rattle.std.proofs.Common.{sym, ap, subst, ◌∙◌, length-append, eq-eqb, ne_eqb}
-use mathlib.Core.List.{List, [], ◌∷◌, ◌++◌, append-nil}
+use mathlib.Core.List.{List, [], ◌∷◌, ◌++◌}
 use Prim.Native.Nat.{ℕ, zero, suc, ◌+◌, ◌-◌, ◌*◌, ◌/◌, ◌%◌, ◌≤◌, ◌<◌}
 use native.Mathlib.Omega.{arith}
 use Rattle.paper_expressions.specs.Bytes.{bytes}
-use Rattle.paper_guideline.specs.Line.{digits_of}
-use Rattle.parts.specs.Texts.{cells, text_at_fn}
+use Rattle.parts.specs.Texts.{text_at_fn}
 use Rattle.blocks.specs.Blocks.{cells_long}
 use Rattle.written.specs.Longest.{longest_number}
 use Rattle.digits.specs.Appends.{Appends}

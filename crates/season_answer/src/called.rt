@@ -12,10 +12,8 @@ pub fn name(texts: &[u8], h: usize, out: &mut [u8], o: usize) -> usize
     let x = h / HANDLE;
     let n = h % HANDLE;
     let mut p = o;
-    let mut i = 0usize;
-    while i < n {
+    for i in 0..n {
         p = digits::byte(at(texts, x, i), out, p);
-        i += 1;
     }
     p
 }

@@ -18,13 +18,15 @@ fn label(
 ) -> usize
     ensures { Appends out.old out.new o result (label_written columns.now kept.now ends.now separator i) }
 {
-    if cell(columns, i) != Column::LABEL {
-        return o;
+    if cell(columns, i) == Column::LABEL {
+        put_field(field(kept, ends, i), separator, out, o)
+    } else {
+        o
     }
-    put_field(field(kept, ends, i), separator, out, o)
 }
 
 // Those of the first `many` columns.
+#[tactic(auto, using(crate::specs::FieldsLaws::turn_none, crate::specs::FieldsLaws::turn_more))]
 pub fn labels(
     columns: &[u32],
     many: usize,
@@ -37,10 +39,8 @@ pub fn labels(
     ensures { Appends out.old out.new o result (labels_written columns.now many kept.now ends.now separator) }
 {
     let mut p = o;
-    let mut i = 0usize;
-    while i < many {
+    for i in 0..many {
         p = label(columns, kept, ends, i, separator, out, p);
-        i += 1;
     }
     p
 }
@@ -49,20 +49,20 @@ pub fn labels(
 fn no_label(columns: &[u32], i: usize, separator: u8, out: &mut [u8], o: usize) -> usize
     ensures { Appends out.old out.new o result (no_label_written columns.now separator i) }
 {
-    if cell(columns, i) != Column::LABEL {
-        return o;
+    if cell(columns, i) == Column::LABEL {
+        nothing(separator, out, o)
+    } else {
+        o
     }
-    nothing(separator, out, o)
 }
 
+#[tactic(auto, using(crate::specs::FieldsLaws::turn_none, crate::specs::FieldsLaws::turn_more))]
 pub fn no_labels(columns: &[u32], many: usize, separator: u8, out: &mut [u8], o: usize) -> usize
     ensures { Appends out.old out.new o result (no_labels_written columns.now many separator) }
 {
     let mut p = o;
-    let mut i = 0usize;
-    while i < many {
+    for i in 0..many {
         p = no_label(columns, i, separator, out, p);
-        i += 1;
     }
     p
 }

@@ -1,10 +1,9 @@
 // The last two fields: the cycles that were enacted, and how the line ended.
-ghost use Rattle.std.specs.Prelude.{◌≤◌, length, take, ◌≡◌};
 ghost use Rattle.digits.specs.Appends.{Appends};
 ghost use Rattle.season_answer.specs.Fields as fields;
 
 use crate::called::name;
-use crate::room::{last, nothing};
+use crate::room::{front, last, nothing};
 use endings::Ending;
 
 // The most bytes of a refusal with the name of a data item.
@@ -28,24 +27,9 @@ fn refusal(number: u8, texts: &[u8], h: usize, w: &mut [u8]) -> usize
     ensures { Appends w.old w.new 0 result (fields.refusal number texts.now h) }
 {
     let p = digits::word(b"refused ", w, 0);
-    let q = digits::number(wide(number), w, p);
+    let q = digits::number(usize::from(number), w, p);
     let r = digits::word(b": ", w, q);
     name(texts, h, w, r)
-}
-
-fn wide(b: u8) -> usize
-    ensures { result ≡ b }
-{
-    b as usize
-}
-
-fn last_first(b: &[u8], k: usize, separator: u8, out: &mut [u8], o: usize) -> usize
-    ensures { k ≤ length b.now → Appends out.old out.new o result (fields.last_written separator (take k b.now)) }
-{
-    if b.len() < k {
-        return o;
-    }
-    last(&b[..k], separator, out, o)
 }
 
 // A line with a value that is refused: the number, and the data item, whose name has the handle `h`.
@@ -56,7 +40,7 @@ pub fn refused(number: u8, texts: &[u8], h: usize, separator: u8, out: &mut [u8]
     let k = refusal(number, texts, h, &mut w);
     let p = nothing(separator, out, o);
     let q = nothing(separator, out, p);
-    last_first(&w, k, separator, out, q)
+    last(front(&w, k), separator, out, q)
 }
 
 // A line that is no record.

@@ -7,7 +7,7 @@ ghost use Rattle.season_answer.specs.Fields.{field_written, names_written, headi
 use crate::called::name;
 use crate::copied::labels;
 use crate::found::count;
-use crate::room::{field, first, last};
+use crate::room::{field, front, last};
 use state::{Plan, cell};
 
 // As many bytes as a handle can tell.
@@ -18,19 +18,18 @@ fn item(texts: &[u8], h: usize, separator: u8, out: &mut [u8], o: usize) -> usiz
 {
     let mut w = [0u8; NAME];
     let k = name(texts, h, &mut w, 0);
-    first(&w, k, separator, out, o)
+    field(front(&w, k), separator, out, o)
 }
 
 // The names of the data items.
+#[tactic(auto, using(crate::specs::FieldsLaws::turn_none, crate::specs::FieldsLaws::turn_more))]
 fn items(plan: &[u32], texts: &[u8], separator: u8, out: &mut [u8], o: usize) -> usize
     ensures { Appends out.old out.new o result (names_written plan.now texts.now (item_count plan.now) separator) }
 {
     let n = count(plan);
     let mut p = o;
-    let mut d = 0usize;
-    while d < n {
+    for d in 0..n {
         p = item(texts, cell(plan, Plan::ITEM_NAME, d), separator, out, p);
-        d += 1;
     }
     p
 }

@@ -1,5 +1,5 @@
 // The data item that a column's name finds, A to Z folded, as an expression finds it (9.5).
-ghost use Rattle.std.specs.Prelude.{◌≡◌, ◌≤◌};
+ghost use Rattle.std.specs.Prelude.{◌≡◌, ◌≤◌, ◌<◌, MatchOption};
 ghost use Rattle.paper_expressions.proofs.Laws.Search.{alikeb};
 ghost use Rattle.parts.specs.Texts.{text_at_fn};
 ghost use Rattle.season_answer.specs.Columns as columns;
@@ -29,11 +29,7 @@ impl Column {
 pub fn count(plan: &[u32]) -> usize
     ensures { (result ≡ columns.item_count plan.now) × (result ≤ 64) }
 {
-    let n = cell(plan, Plan::ITEMS, 0);
-    if n < DataItems::LIMIT {
-        return n;
-    }
-    DataItems::LIMIT
+    cell(plan, Plan::ITEMS, 0).min(DataItems::LIMIT)
 }
 
 // Whether the text with the handle `h` is the name.
@@ -43,50 +39,41 @@ fn is_name(texts: &[u8], h: usize, name: &[u8]) -> bool
     if h % HANDLE != name.len() {
         return false;
     }
-    let mut i = 0usize;
-    while i < name.len() {
-        if letter(texts, h / HANDLE, i) != lower(name[i]) {
+    for (i, b) in name.iter().enumerate() {
+        if letter(texts, h / HANDLE, i) != lower(*b) {
             return false;
         }
-        i += 1;
     }
     true
 }
 
-// The data item with the name; the number of all, if none has it.
-fn named(plan: &[u32], texts: &[u8], name: &[u8]) -> usize
-    ensures { (result ≡ columns.named plan.now texts.now name.now) × (result ≤ 64) }
+// The data item with the name.
+#[tactic(auto, using(crate::specs::ColumnsLaws::first_past, crate::specs::ColumnsLaws::first_here, crate::specs::ColumnsLaws::first_later, crate::specs::ColumnsLaws::none_off))]
+fn named(plan: &[u32], texts: &[u8], name: &[u8]) -> Option<usize>
+    ensures { MatchOption result (columns.named plan.now texts.now name.now ≡ columns.item_count plan.now) (λ d. (d ≡ columns.named plan.now texts.now name.now) × (d < columns.item_count plan.now) × (d < 64)) }
 {
     let n = count(plan);
-    let mut d = 0usize;
-    while d < n {
+    for d in 0..n {
         if is_name(texts, cell(plan, Plan::ITEM_NAME, d), name) {
-            return d;
+            return Some(d);
         }
-        d += 1;
     }
-    n
+    None
 }
 
 fn is_label(name: &[u8]) -> bool
     ensures { result ≡ columns.is_label name.now }
 {
-    if name.len() == 0 {
-        return false;
-    }
-    name[0] == Column::MARK
+    matches!(name, [Column::MARK, ..])
 }
 
 // What a column with the name stands for.
 pub fn stands_for(plan: &[u32], texts: &[u8], name: &[u8]) -> u32
     ensures { result ≡ columns.stands_for plan.now texts.now name.now }
 {
-    let d = named(plan, texts, name);
-    if d < count(plan) {
-        return d as u32 + 1;
+    match named(plan, texts, name) {
+        Some(d) => d as u32 + 1,
+        None if is_label(name) => Column::LABEL,
+        None => Column::NOTHING,
     }
-    if is_label(name) {
-        return Column::LABEL;
-    }
-    Column::NOTHING
 }

@@ -7,7 +7,7 @@ ghost use Rattle.digits.specs.Appends.{Appends};
 ghost use Rattle.season_answer.specs.Fields.{no_bytes, EmptyText, value_field, item_written, values_written, blanks_written};
 
 use crate::found::count;
-use crate::room::{empty_text, first, nothing};
+use crate::room::{empty_text, field, front, nothing};
 use values::{Scalar, Value};
 
 // The most bytes of a value that cells show: 16 texts of 63 bytes, with a comma and a blank between them, and two brackets.
@@ -16,23 +16,13 @@ const WRITTEN: usize = 1_040;
 fn is_empty(s: Scalar) -> bool
     ensures { result ≡ no_bytes s }
 {
-    match s {
-        Scalar::Unknown => false,
-        Scalar::Truth(_) => false,
-        Scalar::Int(_) => false,
-        Scalar::Real(_) => false,
-        Scalar::Text(h) => h.len == 0,
-    }
+    matches!(s, Scalar::Text(h) if h.len == 0)
 }
 
 fn is_empty_text(v: Value) -> bool
     ensures { EmptyText v result }
 {
-    if v.many {
-        return false;
-    }
-    let s = v.one;
-    is_empty(s)
+    !v.many && is_empty(v.one)
 }
 
 // A value that has room.
@@ -44,7 +34,7 @@ fn value(texts: &[u8], v: Value, separator: u8, out: &mut [u8], o: usize) -> usi
     }
     let mut w = [0u8; WRITTEN];
     let k = written::value(texts, v, &mut w, 0);
-    first(&w, k, separator, out, o)
+    field(front(&w, k), separator, out, o)
 }
 
 // The value of the data item `d`.
@@ -53,12 +43,14 @@ fn item(texts: &[u8], state: &[u32], d: usize, separator: u8, out: &mut [u8], o:
     ensures { Appends out.old out.new o result (item_written texts.now state.now separator d) }
 {
     if item_rows::has_value(state, d) {
-        return value(texts, item_rows::value_of(state, d), separator, out, o);
+        value(texts, item_rows::value_of(state, d), separator, out, o)
+    } else {
+        nothing(separator, out, o)
     }
-    nothing(separator, out, o)
 }
 
 // The values of all.
+#[tactic(auto, using(crate::specs::FieldsLaws::turn_none, crate::specs::FieldsLaws::turn_more))]
 pub fn item_values(
     plan: &[u32],
     texts: &[u8],
@@ -71,24 +63,21 @@ pub fn item_values(
 {
     let n = count(plan);
     let mut p = o;
-    let mut d = 0usize;
-    while d < n {
+    for d in 0..n {
         p = item(texts, state, d, separator, out, p);
-        d += 1;
     }
     p
 }
 
 // Of a line that did not run: no value of any.
+#[tactic(auto, using(crate::specs::FieldsLaws::turn_none, crate::specs::FieldsLaws::turn_more))]
 pub fn blanks(plan: &[u32], separator: u8, out: &mut [u8], o: usize) -> usize
     ensures { Appends out.old out.new o result (blanks_written (item_count plan.now) separator) }
 {
     let n = count(plan);
     let mut p = o;
-    let mut d = 0usize;
-    while d < n {
+    for _d in 0..n {
         p = nothing(separator, out, p);
-        d += 1;
     }
     p
 }

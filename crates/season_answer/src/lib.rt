@@ -18,6 +18,6 @@ pub use ends::{ended, refused, unread};
 pub use first_line::heading;
 pub use found::Column;
 pub use item_fields::{blanks, item_values};
-pub use places::read as read_columns;
+pub use places::{counted, read as read_columns};
 pub use room::Size;
 pub use tasks::reached;

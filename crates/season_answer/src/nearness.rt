@@ -11,11 +11,8 @@ fn listed(texts: &[u8], h: usize) {
 
 // The names of all data items.
 fn list(plan: &[u32], texts: &[u8]) {
-    let n = count(plan);
-    let mut d = 0usize;
-    while d < n {
+    for d in 0..count(plan) {
         listed(texts, cell(plan, Plan::ITEM_NAME, d));
-        d += 1;
     }
 }
 

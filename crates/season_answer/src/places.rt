@@ -1,5 +1,5 @@
 // The columns of a sheet, by the names in its first line. What is wrong with one is told on standard error.
-ghost use Rattle.std.specs.Prelude.{◌≡◌, ◌&&◌, set};
+ghost use Rattle.std.specs.Prelude.{◌≡◌, ◌<◌, set, MatchOption};
 ghost use Rattle.season_answer.specs.Columns as places;
 
 use crate::found::{Column, stands_for};
@@ -7,9 +7,14 @@ use crate::nearness;
 use blocks::{cell, put_cell};
 use separated::field;
 
+// Columns are counted from 1; what stands behind the last counts to it.
+pub fn counted(i: usize) -> u64 {
+    i.min(Column::LIMIT - 1) as u64 + 1
+}
+
 fn head(i: usize, name: &[u8]) {
     aside::text(b"column ");
-    aside::number(i as u64);
+    aside::number(counted(i));
     aside::text(b", ");
     aside::bytes(name);
 }
@@ -26,29 +31,21 @@ fn tell_nothing(plan: &[u32], texts: &[u8], i: usize, name: &[u8]) {
 fn tell_twice(i: usize, name: &[u8], first: usize) {
     head(i, name);
     aside::text(b": this data item is also that of column ");
-    aside::number(first as u64);
+    aside::number(counted(first));
     aside::text(b".\n");
 }
 
-// The first of the columns before `i` that stands for the data item; `i` if none does.
-fn first_with(columns: &[u32], i: usize, c: u32) -> usize
-    ensures { result ≡ places.first_with columns.now i c }
+// The first of the columns before `i` that stands for the data item.
+#[tactic(auto, using(crate::specs::ColumnsLaws::first_past, crate::specs::ColumnsLaws::first_here, crate::specs::ColumnsLaws::first_later, crate::specs::ColumnsLaws::none_off))]
+fn first_with(columns: &[u32], i: usize, c: u32) -> Option<usize>
+    ensures { MatchOption result (places.first_with columns.now i c ≡ i) (λ j. (j ≡ places.first_with columns.now i c) × (j < i)) }
 {
-    let mut j = 0usize;
-    while j < i {
+    for j in 0..i {
         if cell(columns, j) == c {
-            return j;
+            return Some(j);
         }
-        j += 1;
     }
-    i
-}
-
-fn next(i: usize) -> usize {
-    if i < Column::LIMIT {
-        return i + 1;
-    }
-    i
+    None
 }
 
 // Whether the column `i`, which stands for `c`, may.
@@ -59,15 +56,16 @@ fn is_well(plan: &[u32], texts: &[u8], columns: &[u32], i: usize, c: u32, name: 
         return true;
     }
     if c == Column::NOTHING {
-        tell_nothing(plan, texts, next(i), name);
+        tell_nothing(plan, texts, i, name);
         return false;
     }
-    let j = first_with(columns, i, c);
-    if j < i {
-        tell_twice(next(i), name, next(j));
-        return false;
+    match first_with(columns, i, c) {
+        Some(j) => {
+            tell_twice(i, name, j);
+            false
+        }
+        None => true,
     }
-    true
 }
 
 // The column `i`.
@@ -88,15 +86,6 @@ fn read_one(
     well
 }
 
-fn both(a: bool, b: bool) -> bool
-    ensures { result ≡ (a && b) }
-{
-    if a {
-        return b;
-    }
-    false
-}
-
 // All of them; whether each may be there.
 pub fn read(
     plan: &[u32],
@@ -109,11 +98,9 @@ pub fn read(
     ensures { (result ≡ places.all_may (places.of_field plan.now texts.now kept.now ends.now) columns.old 0 fields) × (columns.new ≡ places.columns_from (places.of_field plan.now texts.now kept.now ends.now) columns.old 0 fields) }
 {
     let mut well = true;
-    let mut i = 0usize;
-    while i < fields {
+    for i in 0..fields {
         let one = read_one(plan, texts, kept, ends, i, columns);
-        well = both(well, one);
-        i += 1;
+        well = well && one;
     }
     well
 }

@@ -1,5 +1,5 @@
 // The fields of a line.
-ghost use Rattle.std.specs.Prelude.{◌≤◌, length, take};
+ghost use Rattle.std.specs.Prelude.{◌≡◌, ◌≤◌, length, take};
 ghost use Rattle.digits.specs.Appends.{Appends};
 ghost use Rattle.season_answer.specs.Fields.{field_written, last_written, nothing_written, empty_written};
 
@@ -25,14 +25,11 @@ pub fn field(f: &[u8], separator: u8, out: &mut [u8], o: usize) -> usize
     byte(separator, out, p)
 }
 
-// A field that is the first `k` bytes of a buffer.
-pub fn first(b: &[u8], k: usize, separator: u8, out: &mut [u8], o: usize) -> usize
-    ensures { k ≤ length b.now → Appends out.old out.new o result (field_written separator (take k b.now)) }
+// The first `k` bytes of a buffer, which has so many.
+pub fn front(b: &[u8], k: usize) -> &[u8]
+    ensures { k ≤ length b.now → result.now ≡ take k b.now }
 {
-    if b.len() < k {
-        return o;
-    }
-    field(&b[..k], separator, out, o)
+    b.get(..k).unwrap_or(b)
 }
 
 // A field with nothing in it.

@@ -4,7 +4,7 @@ ghost use Rattle.digits.specs.Appends.{Appends};
 ghost use Rattle.season_answer.specs.Fields as fields;
 
 use crate::called::name;
-use crate::room::first;
+use crate::room::{field, front};
 use limits::Tasks;
 use state::{Class, Plan, Property, cell};
 
@@ -14,13 +14,8 @@ const NAMES: usize = 2_080;
 fn is_reached(plan: &[u32], state: &[u32], t: usize) -> bool
     ensures { result ≡ fields.is_reached plan.now state.now t }
 {
-    if cell(plan, Plan::CLASS, t) != Class::ACTION {
-        return false;
-    }
-    if cell(state, Property::IN_PROGRESS_TIME as usize, t) == 0 {
-        return false;
-    }
-    true
+    cell(plan, Plan::CLASS, t) == Class::ACTION
+        && cell(state, Property::IN_PROGRESS_TIME as usize, t) != 0
 }
 
 // The name of the task `t`, if it is such an action, behind those of the tasks before it.
@@ -43,10 +38,8 @@ fn gather(plan: &[u32], texts: &[u8], state: &[u32], names: &mut [u8]) -> usize
     ensures { 2080 ≤ length names.old → Appends names.old names.new 0 result (fields.reached_names plan.now texts.now state.now 32) }
 {
     let mut p = 0usize;
-    let mut t = 0usize;
-    while t < Tasks::LIMIT {
+    for t in 0..Tasks::LIMIT {
         p = next(plan, texts, state, t, names, p);
-        t += 1;
     }
     p
 }
@@ -64,5 +57,5 @@ pub fn reached(
 {
     let mut names = [0u8; NAMES];
     let k = gather(plan, texts, state, &mut names);
-    first(&names, k, separator, out, o)
+    field(front(&names, k), separator, out, o)
 }

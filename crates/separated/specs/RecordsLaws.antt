@@ -1,11 +1,11 @@
 -- Laws of the fields of a record, of its end and of the separator, as the code finds them: by the tests that it makes.
-use Rattle.std.specs.Prelude.{◌≡◌, refl, Bool, true, false, List, [], ◌∷◌, ℕ, zero, suc, ◌+◌, ◌-◌, ◌≤◌, ◌<◌, eqb, ltb, get_or, set, length, take, drop}
+use Rattle.std.specs.Prelude.{◌≡◌, refl, Bool, true, false, List, [], ℕ, zero, suc, ◌+◌, ◌-◌, ◌≤◌, ◌<◌, eqb, get_or, set, length, take, drop}
 use Rattle.std.proofs.Common.{sym, ap, subst, ◌∙◌, add-one, arith, lt-ltb, le-ltb, eq-eqb, ne_eqb}
 use Rattle.std.proofs.Math.Seq.{drop-cons}
 use Rattle.separated.specs.declared.machine.Mode.{Mode}
 use Rattle.separated.specs.declared.machine.Mode.TheVariants.{Before, Bare, Quoted, Closed, Returned, Lost}
 use Rattle.separated.specs.declared.records.Scan.{Scan}
-use Rattle.separated.specs.Records.{begins, field_of, pick, with_fault, spoilt_by, cut_off, turned, told, or_later, told_from}
+use Rattle.separated.specs.Records.{begins, field_of, pick, with_fault, cut_off, turned, told, or_later, told_from}
 
 -- ---- fields
 

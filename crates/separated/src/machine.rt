@@ -1,6 +1,6 @@
 // What a byte does to a record: a machine over six modes and five kinds of bytes.
 ghost use Rattle.std.specs.Prelude.{◌≡◌};
-ghost use Rattle.separated.specs.Machine.{kind_of, move, step_of};
+ghost use Rattle.separated.specs.Machine.{kind_of, step_of};
 
 #[derive(Drop)]
 pub struct Byte {}
@@ -13,7 +13,7 @@ impl Byte {
     pub const RETURN: u8 = 13;
 }
 
-#[derive(Drop)]
+#[derive(Clone, Copy)]
 pub enum Kind {
     Quote,
     Newline,
@@ -35,7 +35,7 @@ pub enum Mode {
 }
 
 // What is done with the byte: it is kept, it is passed over, it ends the field, it ends the field and the record, or no record has it here.
-#[derive(Drop)]
+#[derive(Clone, Copy)]
 pub enum Act {
     Keep,
     Pass,
@@ -44,7 +44,7 @@ pub enum Act {
     Fault,
 }
 
-#[derive(Drop)]
+#[derive(Clone, Copy)]
 pub struct Move {
     pub act: Act,
     pub mode: Mode,
@@ -53,99 +53,12 @@ pub struct Move {
 pub fn kind_of(b: u8, separator: u8) -> Kind
     ensures { result ≡ kind_of b separator }
 {
-    if b == separator {
-        return Kind::Separator;
-    }
-    if b == Byte::QUOTE {
-        return Kind::Quote;
-    }
-    if b == Byte::NEWLINE {
-        return Kind::Newline;
-    }
-    if b == Byte::RETURN {
-        return Kind::Return;
-    }
-    Kind::Other
-}
-
-fn to(act: Act, mode: Mode) -> Move
-    ensures { result ≡ move act mode }
-{
-    Move {
-        act: act,
-        mode: mode,
-    }
-}
-
-fn opening(k: Kind) -> Move
-    ensures { result ≡ step_of Mode.Before k }
-{
-    match k {
-        Kind::Quote => to(Act::Pass, Mode::Quoted),
-        Kind::Newline => to(Act::Last, Mode::Before),
-        Kind::Return => to(Act::Pass, Mode::Returned),
-        Kind::Separator => to(Act::End, Mode::Before),
-        Kind::Other => to(Act::Keep, Mode::Bare),
-    }
-}
-
-fn bare(k: Kind) -> Move
-    ensures { result ≡ step_of Mode.Bare k }
-{
-    match k {
-        Kind::Quote => to(Act::Fault, Mode::Lost),
-        Kind::Newline => to(Act::Last, Mode::Before),
-        Kind::Return => to(Act::Pass, Mode::Returned),
-        Kind::Separator => to(Act::End, Mode::Before),
-        Kind::Other => to(Act::Keep, Mode::Bare),
-    }
-}
-
-fn inside(k: Kind) -> Move
-    ensures { result ≡ step_of Mode.Quoted k }
-{
-    match k {
-        Kind::Quote => to(Act::Pass, Mode::Closed),
-        Kind::Newline => to(Act::Keep, Mode::Quoted),
-        Kind::Return => to(Act::Keep, Mode::Quoted),
-        Kind::Separator => to(Act::Keep, Mode::Quoted),
-        Kind::Other => to(Act::Keep, Mode::Quoted),
-    }
-}
-
-fn closed(k: Kind) -> Move
-    ensures { result ≡ step_of Mode.Closed k }
-{
-    match k {
-        Kind::Quote => to(Act::Keep, Mode::Quoted),
-        Kind::Newline => to(Act::Last, Mode::Before),
-        Kind::Return => to(Act::Pass, Mode::Returned),
-        Kind::Separator => to(Act::End, Mode::Before),
-        Kind::Other => to(Act::Fault, Mode::Lost),
-    }
-}
-
-fn returned(k: Kind) -> Move
-    ensures { result ≡ step_of Mode.Returned k }
-{
-    match k {
-        Kind::Quote => to(Act::Fault, Mode::Lost),
-        Kind::Newline => to(Act::Last, Mode::Before),
-        Kind::Return => to(Act::Fault, Mode::Lost),
-        Kind::Separator => to(Act::Fault, Mode::Lost),
-        Kind::Other => to(Act::Fault, Mode::Lost),
-    }
-}
-
-fn lost(k: Kind) -> Move
-    ensures { result ≡ step_of Mode.Lost k }
-{
-    match k {
-        Kind::Quote => to(Act::Pass, Mode::Lost),
-        Kind::Newline => to(Act::Last, Mode::Before),
-        Kind::Return => to(Act::Pass, Mode::Lost),
-        Kind::Separator => to(Act::Pass, Mode::Lost),
-        Kind::Other => to(Act::Pass, Mode::Lost),
+    match b {
+        _ if b == separator => Kind::Separator,
+        Byte::QUOTE => Kind::Quote,
+        Byte::NEWLINE => Kind::Newline,
+        Byte::RETURN => Kind::Return,
+        _ => Kind::Other,
     }
 }
 
@@ -153,12 +66,19 @@ fn lost(k: Kind) -> Move
 pub fn step(m: Mode, k: Kind) -> Move
     ensures { result ≡ step_of m k }
 {
-    match m {
-        Mode::Before => opening(k),
-        Mode::Bare => bare(k),
-        Mode::Quoted => inside(k),
-        Mode::Closed => closed(k),
-        Mode::Returned => returned(k),
-        Mode::Lost => lost(k),
-    }
+    let (act, mode) = match (m, k) {
+        (Mode::Before, Kind::Quote) => (Act::Pass, Mode::Quoted),
+        (Mode::Quoted, Kind::Quote) => (Act::Pass, Mode::Closed),
+        (Mode::Quoted, _) => (Act::Keep, Mode::Quoted),
+        (Mode::Closed, Kind::Quote) => (Act::Keep, Mode::Quoted),
+        (_, Kind::Newline) => (Act::Last, Mode::Before),
+        (Mode::Lost, _) => (Act::Pass, Mode::Lost),
+        (Mode::Bare, Kind::Quote) | (Mode::Closed, Kind::Other) | (Mode::Returned, _) => {
+            (Act::Fault, Mode::Lost)
+        }
+        (Mode::Before | Mode::Bare | Mode::Closed, Kind::Separator) => (Act::End, Mode::Before),
+        (Mode::Before | Mode::Bare | Mode::Closed, Kind::Return) => (Act::Pass, Mode::Returned),
+        (Mode::Before | Mode::Bare, Kind::Other) => (Act::Keep, Mode::Bare),
+    };
+    Move { act, mode }
 }

@@ -10,31 +10,17 @@ use digits::{byte, word};
 fn special(b: u8, separator: u8) -> bool
     ensures { result ≡ specialOf separator b }
 {
-    if b == separator {
-        return true;
-    }
-    if b == Byte::QUOTE {
-        return true;
-    }
-    if b == Byte::NEWLINE {
-        return true;
-    }
-    if b == Byte::RETURN {
-        return true;
-    }
-    false
+    b == separator || b == Byte::QUOTE || b == Byte::NEWLINE || b == Byte::RETURN
 }
 
 // Whether a field has such a byte.
 fn has_special(field: &[u8], separator: u8) -> bool
     ensures { result ≡ specials separator field.now }
 {
-    let mut i = 0usize;
-    while i < field.len() {
-        if special(field[i], separator) {
+    for b in field {
+        if special(*b, separator) {
             return true;
         }
-        i += 1;
     }
     false
 }
@@ -55,10 +41,8 @@ fn doubled(field: &[u8], out: &mut [u8], o: usize) -> usize
     ensures { Appends out.old out.new o result (doubledOf field.now) }
 {
     let mut p = o;
-    let mut i = 0usize;
-    while i < field.len() {
-        p = escaped(field[i], out, p);
-        i += 1;
+    for b in field {
+        p = escaped(*b, out, p);
     }
     p
 }
@@ -77,7 +61,8 @@ pub fn put(field: &[u8], separator: u8, out: &mut [u8], o: usize) -> usize
     ensures { Appends out.old out.new o result (as_written separator field.now) }
 {
     if has_special(field, separator) {
-        return quoted(field, out, o);
+        quoted(field, out, o)
+    } else {
+        word(field, out, o)
     }
-    word(field, out, o)
 }

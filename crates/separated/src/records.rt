@@ -10,6 +10,7 @@ use crate::machine::{Act, Byte, Mode, kind_of, step};
 pub struct Fault {}
 
 // Why a line is no record.
+// stays: promise of begun, spoilt_by and fault_in, which have these numbers
 impl Fault {
     pub const NONE: u8 = 0;
 
@@ -64,26 +65,18 @@ pub fn begin(lines: u64) -> Scan
         done: false,
         fault: Fault::NONE,
         wrong: 0,
-        lines: lines,
+        lines,
     }
-}
-
-fn one_more(n: u64) -> u64
-    ensures { result ≡ reading.one_more n }
-{
-    if n == u64::MAX {
-        return n;
-    }
-    n + 1
 }
 
 fn lines_with(n: u64, b: u8) -> u64
     ensures { result ≡ reading.lines_with n b }
 {
     if b == Byte::NEWLINE {
-        return one_more(n);
+        n.saturating_add(1)
+    } else {
+        n
     }
-    n
 }
 
 // The mode behind the byte `b`.
@@ -91,14 +84,11 @@ fn moved(s: Scan, mode: Mode, b: u8) -> Scan
     ensures { result ≡ reading.moved_to mode b s }
 {
     Scan {
-        mode: mode,
-        n: s.n,
-        fields: s.fields,
+        mode,
         began: true,
         done: false,
-        fault: s.fault,
-        wrong: s.wrong,
         lines: lines_with(s.lines, b),
+        ..s
     }
 }
 
@@ -118,36 +108,32 @@ fn fault_in(m: Mode) -> u8
     ensures { result ≡ reading.fault_in m }
 {
     match m {
-        Mode::Before => Fault::NONE,
         Mode::Bare => Fault::QUOTE_INSIDE,
-        Mode::Quoted => Fault::NONE,
         Mode::Closed => Fault::BEHIND_QUOTE,
         Mode::Returned => Fault::LONE_RETURN,
-        Mode::Lost => Fault::NONE,
+        Mode::Before | Mode::Quoted | Mode::Lost => Fault::NONE,
     }
 }
 
 fn keep(mut s: Scan, b: u8, kept: &mut [u8]) -> Scan
     ensures { (result ≡ reading.byte_kept (length kept.old) s) × (kept.new ≡ set kept.old s.n b) }
 {
-    let n = s.n;
-    if kept.len() <= n {
+    if kept.len() <= s.n {
         return spoilt(s, Fault::TOO_LONG);
     }
-    kept[n] = b;
-    s.n = n + 1;
+    kept[s.n] = b;
+    s.n += 1;
     s
 }
 
 fn end_field(mut s: Scan, ends: &mut [usize]) -> Scan
     ensures { (result ≡ records.field_ended (length ends.old) s) × (ends.new ≡ set ends.old s.fields s.n) }
 {
-    let k = s.fields;
-    if ends.len() <= k {
+    if ends.len() <= s.fields {
         return spoilt(s, Fault::TOO_MANY);
     }
-    ends[k] = s.n;
-    s.fields = k + 1;
+    ends[s.fields] = s.n;
+    s.fields += 1;
     s
 }
 
@@ -160,20 +146,18 @@ fn end_record(s: Scan, ends: &mut [usize]) -> Scan
 }
 
 // One byte more.
+#[tactic(auto, unfolding(crate::specs::Reading::read_byte))]
 fn advance(s: Scan, b: u8, separator: u8, kept: &mut [u8], ends: &mut [usize]) -> Scan
     ensures { reading.read result kept.new ends.new ≡ reading.read_byte separator (reading.read s kept.old ends.old) b }
 {
-    let mode = s.mode;
-    let m = step(mode, kind_of(b, separator));
-    let next = m.mode;
-    let act = m.act;
-    let t = moved(s, next, b);
-    match act {
+    let m = step(s.mode, kind_of(b, separator));
+    let t = moved(s, m.mode, b);
+    match m.act {
         Act::Keep => keep(t, b, kept),
         Act::Pass => t,
         Act::End => end_field(t, ends),
         Act::Last => end_record(t, ends),
-        Act::Fault => spoilt(t, fault_in(mode)),
+        Act::Fault => spoilt(t, fault_in(s.mode)),
     }
 }
 
@@ -188,30 +172,27 @@ pub fn take(
 ) -> Taken
     ensures { reading.reached result.at (reading.read result.scan kept.new ends.new) ≡ reading.read_from separator from (reading.read begun kept.old ends.old) (drop from chunk.now) }
 {
-    let mut at = from;
-    let mut s = begun;
-    while at < chunk.len() {
-        s = advance(s, chunk[at], separator, kept, ends);
-        at += 1;
-        if s.done {
-            return Taken { at: at, scan: s };
+    let mut scan = begun;
+    for at in from..chunk.len() {
+        scan = advance(scan, chunk[at], separator, kept, ends);
+        if scan.done {
+            return Taken { at: at + 1, scan };
         }
     }
-    Taken { at: at, scan: s }
+    Taken {
+        at: from.max(chunk.len()),
+        scan,
+    }
 }
 
 // What is wrong with a record that the end of the input cuts off.
 fn cut_off(s: Scan) -> Scan
     ensures { result ≡ records.cut_off s.mode s }
 {
-    let mode = s.mode;
-    match mode {
-        Mode::Before => s,
-        Mode::Bare => s,
+    match s.mode {
         Mode::Quoted => spoilt(s, Fault::OPEN),
-        Mode::Closed => s,
         Mode::Returned => spoilt(s, Fault::LONE_RETURN),
-        Mode::Lost => s,
+        Mode::Before | Mode::Bare | Mode::Closed | Mode::Lost => s,
     }
 }
 

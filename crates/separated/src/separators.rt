@@ -1,5 +1,5 @@
 // The separator of a sheet: a tab, if its first line has one outside quotes, else a comma.
-ghost use Rattle.std.specs.Prelude.{◌≡◌, false, eqb};
+ghost use Rattle.std.specs.Prelude.{◌≡◌, ◌≢◌, false, eqb, MatchOption};
 ghost use Rattle.separated.specs.Records as records;
 
 use crate::machine::Byte;
@@ -8,9 +8,6 @@ use crate::machine::Byte;
 pub struct Separator {}
 
 impl Separator {
-    // nothing is told yet
-    const UNTOLD: u8 = 0;
-
     pub const TAB: u8 = 9;
 
     pub const COMMA: u8 = 44;
@@ -20,26 +17,17 @@ impl Separator {
 fn turned(b: u8, inside: bool) -> bool
     ensures { result ≡ records.turned (eqb b 34) inside }
 {
-    if b != Byte::QUOTE {
-        return inside;
-    }
-    if inside {
-        return false;
-    }
-    true
+    inside != (b == Byte::QUOTE)
 }
 
-// What the byte `b` tells.
-fn tells(b: u8, inside: bool) -> u8
-    ensures { result ≡ records.told inside b }
+// The separator that the byte `b` tells, if it tells one.
+fn tells(b: u8, inside: bool) -> Option<u8>
+    ensures { MatchOption result (records.told inside b ≡ 0) (λ s. (s ≡ records.told inside b) × (s ≢ 0)) }
 {
-    if inside {
-        return Separator::UNTOLD;
-    }
     match b {
-        Separator::TAB => Separator::TAB,
-        Byte::NEWLINE => Separator::COMMA,
-        _ => Separator::UNTOLD,
+        Separator::TAB if !inside => Some(Separator::TAB),
+        Byte::NEWLINE if !inside => Some(Separator::COMMA),
+        _ => None,
     }
 }
 
@@ -47,16 +35,12 @@ fn tells(b: u8, inside: bool) -> u8
 pub fn told_by(chunk: &[u8]) -> u8
     ensures { result ≡ records.told_from false chunk.now }
 {
-    let mut i = 0usize;
     let mut inside = false;
-    while i < chunk.len() {
-        let b = chunk[i];
-        inside = turned(b, inside);
-        let told = tells(b, inside);
-        if told != Separator::UNTOLD {
-            return told;
+    for b in chunk {
+        inside = turned(*b, inside);
+        if let Some(separator) = tells(*b, inside) {
+            return separator;
         }
-        i += 1;
     }
     Separator::COMMA
 }

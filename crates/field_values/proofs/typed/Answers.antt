@@ -1,6 +1,5 @@
 -- `typed`: a value, or the refusal of what is wrong.
 use Rattle.field_values.specs.ReadingLaws.{as_value, as_wrong}
-use borrow.Author.Rules.{rules}
 use Rattle.field_values.proofs.typed.Goals as goal
 
 pub returns-in-Value : goal.returns-in-Value

@@ -1,7 +1,7 @@
 -- `ended`: the cycles, and the word of the ending.
 use Prim.Native.Nat.{ℕ}
 use mathlib.Core.Path.{ap}
-use borrow.Author.Tests.{ne_eqb}
+use Rattle.std.proofs.Common.{arith, ne_eqb}
 use Rattle.digits.specs.AppendsLaws.{append_then, appends_as}
 use Rattle.season_answer.specs.Fields.{ended_written}
 use Rattle.season_answer.proofs.ends.ended.Goals as goal
@@ -16,4 +16,4 @@ returns-in-2 c =
 
 pub returns-in_default : goal.returns-in_default
 returns-in_default c =
-    simp (ne_eqb c.args.ending 1 c.in_default.in_default-own.rest.0.1, ne_eqb c.args.ending 2 c.in_default.in_default-own.rest.1) (append_then (append_then c.number-q.ensures c.byte-p.ensures) c.last-in_default.ensures)
+    simp (ne_eqb c.args.ending 1 (λ e. omega arith), ne_eqb c.args.ending 2 (λ e. omega arith)) (append_then (append_then c.number-q.ensures c.byte-p.ensures) c.last-in_default.ensures)

@@ -1,9 +1,10 @@
 -- `refusal`: one piece behind the other.
-use Prim.Native.Nat.{ℕ}
-use mathlib.Core.Path.{ap, sym}
+use Rattle.std.proofs.Common.{◌≡◌, ℕ, ap, arith}
 use Rattle.paper_guideline.specs.Line.{digits_of}
 use Rattle.digits.specs.AppendsLaws.{append_then, appends_as}
 use Rattle.season_answer.proofs.ends.refusal.Goals as goal
 
 pub returns : goal.returns
-returns c = append_then (append_then (append_then c.word-p.ensures (appends_as (ap (λ (n : ℕ). digits_of n) (sym c.wide.ensures)) c.number-q.ensures)) c.word-r.ensures) c.name.ensures
+returns c =
+    let e : c.args.number ≡ c.from.result = omega arith in
+    append_then (append_then (append_then c.word-p.ensures (appends_as (ap (λ (n : ℕ). digits_of n) e) c.number-q.ensures)) c.word-r.ensures) c.name.ensures
