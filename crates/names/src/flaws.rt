@@ -13,9 +13,10 @@ pub fn spot(rows: &[u32], j: usize) -> usize
     ensures { result ≡ spot_of rows.now j }
 {
     if once(kind(rows, j)) {
-        return word(rows, j);
+        word(rows, j)
+    } else {
+        place(rows, j)
     }
-    place(rows, j)
 }
 
 // One row more.
@@ -33,9 +34,10 @@ fn judge(
     ensures { Judges rows.now n bytes.now tasks.now m items.now d j best result }
 {
     if flawed(rows, n, bytes, tasks, m, items, d, j) {
-        return nearer(best, spot(rows, j));
+        nearer(best, spot(rows, j))
+    } else {
+        best
     }
-    best
 }
 
 // The smallest place of a flaw.
