@@ -33,9 +33,9 @@ fn told(number: u32, ending: u32, count: u32) -> Outcome
     ensures { (result.number ≡ number) × (result.ending ≡ ending) × (result.count ≡ count) × (result.place ≡ 0) }
 {
     Outcome {
-        number: number,
-        ending: ending,
-        count: count,
+        number,
+        ending,
+        count,
         place: 0,
     }
 }
@@ -46,10 +46,8 @@ fn loaded(r: load::Reply) -> Outcome
     match r {
         load::Reply::Done => told(0, 0, 0),
         load::Reply::Refused(n, place) => Outcome {
-            number: n as u32,
-            ending: 0,
-            count: 0,
             place: place as u64,
+            ..told(u32::from(n), 0, 0)
         },
     }
 }
@@ -59,7 +57,7 @@ fn replied(r: Reply) -> Outcome
 {
     match r {
         Reply::Done => told(0, 0, 0),
-        Reply::Refused(n) => told(n as u32, 0, 0),
+        Reply::Refused(n) => told(u32::from(n), 0, 0),
     }
 }
 
@@ -70,7 +68,7 @@ fn ran(r: Ran) -> Outcome
         Ran::Quiet(k) => told(0, Ending::QUIET, k),
         Ran::Bounded(k) => told(0, Ending::BOUNDED, k),
         Ran::Exception(k) => told(0, Ending::EXCEPTION, k),
-        Ran::Refused(n) => told(n as u32, 0, 0),
+        Ran::Refused(n) => told(u32::from(n), 0, 0),
     }
 }
 

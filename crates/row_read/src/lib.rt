@@ -56,7 +56,8 @@ fn sources(f: &[u32]) -> u64
     ensures { result ≡ sources_in f.now }
 {
     let last = blocks::cell(f, Plan::TASKS).saturating_sub(1) as usize;
-    u64::from(blocks::cell(f, Plan::FIRST_SOURCE + last)) + u64::from(blocks::cell(f, Plan::SOURCES + last))
+    u64::from(blocks::cell(f, Plan::FIRST_SOURCE + last))
+        + u64::from(blocks::cell(f, Plan::SOURCES + last))
 }
 
 // Of the source `n`.

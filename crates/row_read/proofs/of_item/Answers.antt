@@ -8,8 +8,8 @@ pub returns-then-n-from : goal.returns-then-n-from
 returns-then-n-from c =
     let a = c.args in
     elim c.then-n-from.branch [
-      then-n-from-via-then-n-from w ↦ no_item a.f.now a.w a.s.now a.n a.p c.plain.result (c.from.ensures ∙ c.cell.ensures) (omega arith) c.plain.ensures
-    | then-n-from-via-else-n-from+then-n w ↦ far_item a.f.now a.w a.s.now a.n a.p c.plain.result (omega arith) c.plain.ensures
+      | then-n-from-via-then-n-from w ↦ no_item a.f.now a.w a.s.now a.n a.p c.plain.result (c.from.ensures ∙ c.cell.ensures) (omega arith) c.plain.ensures
+      | then-n-from-via-else-n-from+then-n w ↦ far_item a.f.now a.w a.s.now a.n a.p c.plain.result (omega arith) c.plain.ensures
     ]
 
 pub returns : goal.returns

@@ -8,8 +8,8 @@ pub returns-then-n-sources : goal.returns-then-n-sources
 returns-then-n-sources c =
     let a = c.args in
     elim c.then-n-sources.branch [
-      then-n-sources-via-then-n-sources w ↦ no_source a.f.now a.w a.s.now a.n a.p c.plain.result c.sources.ensures (omega arith) c.plain.ensures
-    | then-n-sources-via-else-n-sources+then-n w ↦ far_source a.f.now a.w a.s.now a.n a.p c.plain.result (omega arith) c.plain.ensures
+      | then-n-sources-via-then-n-sources w ↦ no_source a.f.now a.w a.s.now a.n a.p c.plain.result c.sources.ensures (omega arith) c.plain.ensures
+      | then-n-sources-via-else-n-sources+then-n w ↦ far_source a.f.now a.w a.s.now a.n a.p c.plain.result (omega arith) c.plain.ensures
     ]
 
 pub returns : goal.returns

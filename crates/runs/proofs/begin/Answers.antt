@@ -14,8 +14,8 @@ returns-then-bound c =
     let a = c.args in
     let r = c.refused-then-bound in
     elim c.then-bound.branch [
-      then-bound-via-then-bound w ↦ claims_beyond a.bound a.parts.now a.texts.now a.plan.now a.waits a.state.now a.lent r.result c.ready.ensures r.ensures (search rules) (omega arith)
-    | then-bound-via-else-bound+then-lent-lt-ROWS w ↦ claims_short a.bound a.parts.now a.texts.now a.plan.now a.waits a.state.now a.lent r.result c.ready.ensures r.ensures (search rules) (omega arith)
+      | then-bound-via-then-bound w ↦ claims_beyond a.bound a.parts.now a.texts.now a.plan.now a.waits a.state.now a.lent r.result c.ready.ensures r.ensures (search rules) (omega arith)
+      | then-bound-via-else-bound+then-lent-lt-ROWS w ↦ claims_short a.bound a.parts.now a.texts.now a.plan.now a.waits a.state.now a.lent r.result c.ready.ensures r.ensures (search rules) (omega arith)
     ]
 
 pub returns : goal.returns
