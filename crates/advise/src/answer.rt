@@ -5,6 +5,7 @@ ghost use Rattle.advise.specs.Answer.{between, quitb, Obeys, Answers};
 use crate::{confirms, giving, help, shown, timing, told_run, triggers};
 use commands::Command;
 use limits::{Run, WaitTable};
+use tree::Tables;
 
 const CYCLES: u64 = Run::CYCLES as u64;
 
@@ -12,14 +13,7 @@ const CYCLES: u64 = Run::CYCLES as u64;
 fn part(line: &[u8], from: usize, to: usize) -> &[u8]
     ensures { result.now ≡ between line.now from to }
 {
-    let n = line.len();
-    if n < to {
-        return &line[n..n];
-    }
-    if to < from {
-        return &line[n..n];
-    }
-    &line[from..to]
+    line.get(from..to).unwrap_or(&[])
 }
 
 // What a line shows.
@@ -33,15 +27,18 @@ fn show(
     waits: WaitTable,
     state: &[u32],
 ) {
+    let g = Tables {
+        rows,
+        parts,
+        texts,
+        plan,
+        state,
+    };
     match c {
-        Command::Tree => tree::show(rows, parts, texts, plan, state),
-        Command::Asked => shown::asked(rows, parts, texts, plan, state),
-        Command::Rows(from, to) => {
-            shown::rows_of(rows, texts, plan, waits, state, part(line, from, to));
-        }
-        Command::Why(from, to) => {
-            shown::why_is(rows, parts, texts, plan, waits, state, part(line, from, to));
-        }
+        Command::Tree => g.show(),
+        Command::Asked => shown::asked(g),
+        Command::Rows(from, to) => shown::rows_of(g, waits, part(line, from, to)),
+        Command::Why(from, to) => shown::why_is(g, waits, part(line, from, to)),
         Command::Help => help::tell(),
         Command::Unclear(place) => help::unclear(place),
         _ => {}
@@ -90,24 +87,7 @@ fn obey(
 fn is_quit(c: Command) -> bool
     ensures { result ≡ quitb c }
 {
-    match c {
-        Command::Nothing => false,
-        Command::Give(_, _, _) => false,
-        Command::Run => false,
-        Command::RunFor(_) => false,
-        Command::Confirm(_, _) => false,
-        Command::Trigger(_, _) => false,
-        Command::Time(_) => false,
-        Command::Later(_) => false,
-        Command::Earlier(_) => false,
-        Command::Tree => false,
-        Command::Asked => false,
-        Command::Rows(_, _) => false,
-        Command::Why(_, _) => false,
-        Command::Help => false,
-        Command::Quit => true,
-        Command::Unclear(_) => false,
-    }
+    matches!(c, Command::Quit)
 }
 
 // Answers a line; whether there may be another.

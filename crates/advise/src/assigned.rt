@@ -52,57 +52,35 @@ fn listed(rows: &[u32], texts: &[u8], plan: &[u32], news: &[u32], d: usize, any:
 // The data items that were given a value.
 pub fn tell(rows: &[u32], texts: &[u8], plan: &[u32], news: &[u32]) {
     let mut any = false;
-    let mut d = 0usize;
-    while d < DataItems::LIMIT {
+    for d in 0..DataItems::LIMIT {
         any = listed(rows, texts, plan, news, d, any);
-        d += 1;
     }
 }
 
-// The task whose assignment to the data item the i-th row is; `none` if it is no such row.
-fn assigning(plan: &[u32], out: &[u32], i: usize, d: usize, none: usize) -> usize {
+// The task whose assignment to the data item the i-th row is, if it is such a row.
+fn assigning(plan: &[u32], out: &[u32], i: usize, d: usize) -> Option<usize> {
     if cell(out, i, PROPERTY) != Column::VALUE {
-        return none;
+        return None;
     }
     let a = cell(out, i, NUMBER) as usize;
-    if Assignments::LIMIT <= a {
-        return none;
+    if Assignments::LIMIT <= a || parts::number(plan, Plan::ASSIGNED_ITEM + a) != d {
+        return None;
     }
-    if parts::number(plan, Plan::ASSIGNED_ITEM + a) != d {
-        return none;
-    }
-    parts::number(plan, Plan::ASSIGNING_TASK + a)
+    Some(parts::number(plan, Plan::ASSIGNING_TASK + a))
 }
 
 // The tasks that gave the data item its values, each once where its assignments follow each other.
 fn givers(rows: &[u32], texts: &[u8], plan: &[u32], out: &[u32], m: usize, d: usize) {
-    let none = known_names::count(plan, Sort::Task);
-    let mut last = none;
-    let mut i = 0usize;
-    while i < m {
-        last = giver(
-            rows,
-            texts,
-            plan,
-            assigning(plan, out, i, d, last),
-            last,
-            none,
-        );
-        i += 1;
+    let mut last = None;
+    for i in 0..m {
+        if let Some(t) = assigning(plan, out, i, d) {
+            if last != Some(t) {
+                write::text(if last.is_some() { b" and by " } else { b" by " });
+                known_names::tell(rows, texts, plan, Sort::Task, t);
+                last = Some(t);
+            }
+        }
     }
-}
-
-// The task t, if it is not the one that was told last; which one was told last then.
-fn giver(rows: &[u32], texts: &[u8], plan: &[u32], t: usize, last: usize, none: usize) -> usize {
-    if t == last {
-        return last;
-    }
-    if last != none {
-        write::text(b" and");
-    }
-    write::text(b" by ");
-    known_names::tell(rows, texts, plan, Sort::Task, t);
-    t
 }
 
 // The data item, if it was given different values.
@@ -127,9 +105,7 @@ fn collision(
 
 // Every data item that was given different values.
 pub fn collisions(rows: &[u32], texts: &[u8], plan: &[u32], out: &[u32], m: usize, news: &[u32]) {
-    let mut d = 0usize;
-    while d < DataItems::LIMIT {
+    for d in 0..DataItems::LIMIT {
         collision(rows, texts, plan, out, m, news, d);
-        d += 1;
     }
 }

@@ -10,11 +10,10 @@ use sentences::write;
 pub fn confirm(rows: &[u32], texts: &[u8], plan: &[u32], state: &mut [u32], name: &[u8])
     ensures { TaskConfirmed rows.now texts.now plan.now name.now state.old state.new }
 {
-    let t = known_names::find(rows, texts, plan, Sort::Task, name);
-    if known_names::count(plan, Sort::Task) <= t {
+    let Some(t) = known_names::find(rows, texts, plan, Sort::Task, name) else {
         known_names::none(rows, texts, plan, Sort::Task, name);
         return;
-    }
+    };
     match confirming::confirm(plan, state, t as u64) {
         Reply::Done => {
             known_names::tell(rows, texts, plan, Sort::Task, t);

@@ -17,9 +17,7 @@ fn is_enacted(r: Ran) -> bool
     ensures { result ≡ enactedb r }
 {
     match r {
-        Ran::Quiet(n) => 0 < n,
-        Ran::Bounded(n) => 0 < n,
-        Ran::Exception(n) => 0 < n,
+        Ran::Quiet(n) | Ran::Bounded(n) | Ran::Exception(n) => 0 < n,
         Ran::Refused(_) => false,
     }
 }
@@ -28,22 +26,14 @@ fn is_enacted(r: Ran) -> bool
 pub fn is_bounded(r: Ran) -> bool
     ensures { result ≡ boundedb r }
 {
-    match r {
-        Ran::Quiet(_) => false,
-        Ran::Bounded(_) => true,
-        Ran::Exception(_) => false,
-        Ran::Refused(_) => false,
-    }
+    matches!(r, Ran::Bounded(_))
 }
 
 // At most one.
 fn least(n: u32) -> u32
     ensures { (result ≡ least_of n) × (result ≤ 1) }
 {
-    if n == 0 {
-        return 0;
-    }
-    1
+    n.min(1)
 }
 
 // The reply to i cycles, each of which was bounded, and one more. Behind a bounded cycle none is refused.
@@ -67,7 +57,7 @@ pub fn after(i: u32, r: Ran) -> Ran
 // The cycle that is the n-th: what its m rows did, and the values that they gave.
 fn tell(rows: &[u32], texts: &[u8], plan: &[u32], out: &[u32], m: usize, news: &[u32], n: u32) {
     write::text(b"cycle ");
-    io::print_decimal(pieces::STDOUT_FILENO, n as u64);
+    io::print_decimal(pieces::STDOUT_FILENO, u64::from(n));
     write::text(b":");
     done::tell(rows, texts, plan, out, m);
     assigned::tell(rows, texts, plan, news);
@@ -95,7 +85,6 @@ pub fn enact(
     let r = runs::run_alone(parts, texts, plan, waits, state, Changes::ROWS, 1);
     if is_enacted(r) {
         tell(rows, texts, plan, &out, m, &news, n);
-        return r;
     }
     r
 }

@@ -27,10 +27,7 @@ pub struct Asked {
 pub fn cell(out: &[u32], i: usize, k: usize) -> u32
     ensures { result ≡ cell_of out.now i k }
 {
-    if Changes::ROWS <= i {
-        return 0;
-    }
-    if Row::CELLS <= k {
+    if Changes::ROWS <= i || Row::CELLS <= k {
         return 0;
     }
     blocks::cell(out, Row::CELLS * i + k)
@@ -47,36 +44,23 @@ pub fn component(out: &[u32], i: usize) -> usize
 fn is_row(out: &[u32], i: usize, property: u32, number: u32) -> bool
     ensures { result ≡ rowb out.now i property number }
 {
-    if cell(out, i, PROPERTY) != property {
-        return false;
-    }
-    cell(out, i, NUMBER) == number
+    cell(out, i, PROPERTY) == property && cell(out, i, NUMBER) == number
 }
 
 // Whether the i-th row leaves a dormant task as it is.
 fn is_idle(out: &[u32], i: usize, state: &[u32]) -> bool
     ensures { result ≡ idleb out.now i state.now }
 {
-    if !is_row(out, i, Column::STATE, State::DORMANT) {
-        return false;
-    }
-    state::row_is(
-        state,
-        Property::STATE,
-        component(out, i),
-        Tag::STATE,
-        state::State::DORMANT,
-    )
+    let c = component(out, i);
+    is_row(out, i, Column::STATE, State::DORMANT)
+        && state::row_is(state, Property::STATE, c, Tag::STATE, state::State::DORMANT)
 }
 
 // Takes such a row out of those that are told.
 fn hush_row(out: &mut [u32], i: usize, state: &[u32])
     ensures { out.new ≡ hushed_row out.old i state.now }
 {
-    if Changes::ROWS <= i {
-        return;
-    }
-    if is_idle(out, i, state) {
+    if i < Changes::ROWS && is_idle(out, i, state) {
         blocks::put_cell(out, Row::CELLS * i + PROPERTY, 0);
     }
 }
@@ -85,10 +69,8 @@ fn hush_row(out: &mut [u32], i: usize, state: &[u32])
 pub fn hush(out: &mut [u32], m: usize, state: &[u32])
     ensures { Hushed out.old m state.now out.new }
 {
-    let mut i = 0usize;
-    while i < m {
+    for i in 0..m {
         hush_row(out, i, state);
-        i += 1;
     }
 }
 
@@ -120,8 +102,7 @@ fn listed(
         return any;
     }
     before(begun, any, word);
-    let s = a.sort;
-    known_names::tell(rows, texts, plan, s, component(out, i));
+    known_names::tell(rows, texts, plan, a.sort, component(out, i));
     true
 }
 
@@ -137,15 +118,10 @@ fn group(
     word: &[u8],
 ) -> bool {
     let mut any = false;
-    let mut i = 0usize;
-    while i < m {
+    for i in 0..m {
         any = listed(rows, texts, plan, out, i, a, begun, any, word);
-        i += 1;
     }
-    if any {
-        return true;
-    }
-    begun
+    any || begun
 }
 
 // Rows that bring a task to a state.

@@ -70,11 +70,10 @@ pub fn give(
 )
     ensures { ValueGiven line.now from rows.now plan.now name.now texts.old state.old texts.new state.new }
 {
-    let d = known_names::find(rows, texts, plan, Sort::Item, name);
-    if known_names::count(plan, Sort::Item) <= d {
+    let Some(d) = known_names::find(rows, texts, plan, Sort::Item, name) else {
         known_names::none(rows, texts, plan, Sort::Item, name);
         return;
-    }
+    };
     let mut tags = [0u32; Room::CELLS];
     let mut numbers = [0i64; Room::CELLS];
     let mut bytes = [0u8; Room::BYTES];

@@ -30,24 +30,20 @@ fn element(tag: u32) {
 pub fn count(shape: u32) -> usize
     ensures { result ≡ elements_of shape }
 {
-    if shape == 0 {
-        return 1;
+    match shape as usize {
+        0 => 1,
+        n if Room::CELLS < n => 0,
+        n => n - 1,
     }
-    if Room::CELLS < shape as usize {
-        return 0;
-    }
-    shape as usize - 1
 }
 
 // The elements of a list.
 fn list(tags: &[u32], n: usize) {
-    let mut i = 0usize;
-    while i < n {
+    for i in 0..n {
         if 0 < i {
             write::text(b", ");
         }
         element(blocks::cell(tags, 1 + i));
-        i += 1;
     }
 }
 
@@ -74,7 +70,7 @@ const BOOLEAN: usize = 3;
 pub fn declared(n: usize) {
     if n == BOOLEAN {
         write::text(b"yes or no, for it is boolean");
-        return;
+    } else {
+        type_words::declared(n);
     }
-    type_words::declared(n);
 }

@@ -12,18 +12,12 @@ const LOWEST_REAL: i64 = 0 - Num::REAL_LIMIT;
 
 // Whether a number lies beyond a limit, on either side.
 fn is_beyond(n: i64, low: i64, high: i64) -> bool {
-    if high < n {
-        return true;
-    }
-    n < low
+    !(low..=high).contains(&n)
 }
 
 // The i-th number.
 fn number(numbers: &[i64], i: usize) -> i64 {
-    if i < numbers.len() {
-        return numbers[i];
-    }
-    0
+    numbers.get(i).copied().unwrap_or(0)
 }
 
 // Whether the element is a number beyond its limit.
@@ -37,13 +31,11 @@ fn is_past(tag: u32, n: i64) -> bool {
 
 // The tag of the first of n elements that is a number beyond its limit.
 fn first(tags: &[u32], numbers: &[i64], n: usize) -> u32 {
-    let mut i = 0usize;
-    while i < n {
+    for i in 0..n {
         let tag = blocks::cell(tags, 1 + i);
         if is_past(tag, number(numbers, 1 + i)) {
             return tag;
         }
-        i += 1;
     }
     Kind::UNKNOWN
 }

@@ -7,19 +7,14 @@ use crate::shown;
 use limits::WaitTable;
 use sentences::write;
 use std::io::Stdin;
+use tree::Tables;
 use typed_lines::{Held, Line, prompt};
 
 // Whether nothing is left to be read, or to be told of a line that was too long.
 fn is_over(h: Held) -> bool
     ensures { result ≡ overb h }
 {
-    if h.long {
-        return false;
-    }
-    if h.ended {
-        return h.bytes == 0;
-    }
-    false
+    !h.long && h.ended && h.bytes == 0
 }
 
 // Answers the line that ends at a place of the buffer; whether there may be another.
@@ -49,7 +44,7 @@ fn turn(
     answer(line, rows, parts, texts, plan, waits, state)
 }
 
-// A proved loop has to end, so it counts its turns down, from a number that no person uses up.
+// A proved loop has to end, so its turns are counted, up to a number that no person uses up.
 pub fn talk(
     stdin: &mut Stdin,
     rows: &[u32],
@@ -61,12 +56,17 @@ pub fn talk(
 )
     ensures { Talked rows.now parts.now plan.now waits texts.old state.old texts.new state.new }
 {
-    shown::first(rows, parts, texts, plan, state);
+    shown::first(Tables {
+        rows,
+        parts,
+        texts,
+        plan,
+        state,
+    });
     let terminal = prompt::is_terminal(stdin);
     let mut buffer = [0u8; Line::LIMIT];
     let mut h = typed_lines::nothing();
-    let mut turns = u64::MAX;
-    while 0 < turns {
+    for _turn in 0..u64::MAX {
         prompt::ask(terminal);
         h = typed_lines::next(stdin, &mut buffer, h);
         if is_over(h) {
@@ -79,6 +79,5 @@ pub fn talk(
             return;
         }
         h = typed_lines::drop(&mut buffer, h, end);
-        turns -= 1;
     }
 }

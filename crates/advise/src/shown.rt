@@ -2,94 +2,46 @@
 use known_names::Sort;
 use limits::{DataItems, Tasks, WaitTable};
 use sentences::write;
-
-// Whether a data item is asked for.
-fn is_any_asked(state: &[u32]) -> bool {
-    let mut d = 0usize;
-    while d < DataItems::LIMIT {
-        if tree::is_asked(state, d) {
-            return true;
-        }
-        d += 1;
-    }
-    false
-}
-
-// Whether a task waits to be confirmed.
-fn is_any_waiting(plan: &[u32], state: &[u32]) -> bool {
-    let mut t = 0usize;
-    while t < Tasks::LIMIT {
-        if tree::is_waiting(plan, state, t) {
-            return true;
-        }
-        t += 1;
-    }
-    false
-}
+use tree::Tables;
 
 // The data items that are asked for, and the tasks that wait to be confirmed.
-pub fn asked(rows: &[u32], parts: &[u32], texts: &[u8], plan: &[u32], state: &[u32]) {
-    if is_any_asked(state) {
+pub fn asked(g: Tables) {
+    if (0..DataItems::LIMIT).any(|d| tree::is_asked(g.state, d)) {
         write::text(b"Asked for:\n");
     }
-    tree::asked(rows, parts, texts, plan, state);
-    if is_any_waiting(plan, state) {
+    g.asked();
+    if (0..Tasks::LIMIT).any(|t| tree::is_waiting(g.plan, g.state, t)) {
         write::text(b"To be confirmed:\n");
     }
-    tree::waiting(rows, parts, texts, plan, state);
+    g.waiting();
 }
 
 // What is shown first.
-pub fn first(rows: &[u32], parts: &[u32], texts: &[u8], plan: &[u32], state: &[u32]) {
-    tree::show(rows, parts, texts, plan, state);
-    asked(rows, parts, texts, plan, state);
-}
-
-// That neither a task nor a data item has the name.
-fn no_name(rows: &[u32], texts: &[u8], plan: &[u32], name: &[u8]) {
-    known_names::none(rows, texts, plan, Sort::Task, name);
-    known_names::none(rows, texts, plan, Sort::Item, name);
+pub fn first(g: Tables) {
+    g.show();
+    asked(g);
 }
 
 // The rows of the task or data item with the name; of both, if both have it.
-pub fn rows_of(
-    rows: &[u32],
-    texts: &[u8],
-    plan: &[u32],
-    waits: WaitTable,
-    state: &[u32],
-    name: &[u8],
-) {
-    let t = known_names::find(rows, texts, plan, Sort::Task, name);
-    let d = known_names::find(rows, texts, plan, Sort::Item, name);
-    let is_task = t < known_names::count(plan, Sort::Task);
-    let is_item = d < known_names::count(plan, Sort::Item);
-    if is_task {
-        told_rows::task(rows, texts, plan, waits, state, t);
+pub fn rows_of(g: Tables, waits: WaitTable, name: &[u8]) {
+    let t = known_names::find(g.rows, g.texts, g.plan, Sort::Task, name);
+    let d = known_names::find(g.rows, g.texts, g.plan, Sort::Item, name);
+    if let Some(t) = t {
+        told_rows::task(g.rows, g.texts, g.plan, waits, g.state, t);
     }
-    if is_item {
-        told_rows::item(texts, plan, state, d);
-        return;
+    if let Some(d) = d {
+        told_rows::item(g.texts, g.plan, g.state, d);
     }
-    if !is_task {
-        no_name(rows, texts, plan, name);
+    if t.is_none() && d.is_none() {
+        known_names::none(g.rows, g.texts, g.plan, Sort::Task, name);
+        known_names::none(g.rows, g.texts, g.plan, Sort::Item, name);
     }
 }
 
 // Why the task with the name is where it is.
-pub fn why_is(
-    rows: &[u32],
-    parts: &[u32],
-    texts: &[u8],
-    plan: &[u32],
-    waits: WaitTable,
-    state: &[u32],
-    name: &[u8],
-) {
-    let t = known_names::find(rows, texts, plan, Sort::Task, name);
-    if known_names::count(plan, Sort::Task) <= t {
-        known_names::none(rows, texts, plan, Sort::Task, name);
-        return;
+pub fn why_is(g: Tables, waits: WaitTable, name: &[u8]) {
+    match known_names::find(g.rows, g.texts, g.plan, Sort::Task, name) {
+        Some(t) => why::tell(g, waits, t),
+        None => known_names::none(g.rows, g.texts, g.plan, Sort::Task, name),
     }
-    why::tell(rows, parts, texts, plan, waits, state, t);
 }

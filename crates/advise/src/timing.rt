@@ -14,7 +14,7 @@ const BEYOND: u64 = EngineTime::LIMIT + 1;
 fn now(state: &[u32]) -> u64
     ensures { (result ≤ 4294967295) × (result ≡ get_or state.now 2 0) }
 {
-    blocks::cell(state, Header::TIME) as u64
+    u64::from(blocks::cell(state, Header::TIME))
 }
 
 // The time, as it is now.
@@ -45,12 +45,12 @@ pub fn set(state: &mut [u32], time: u64)
 pub fn later(state: &mut [u32], seconds: u64)
     ensures { TimeSet (later_of (get_or state.old 2 0) seconds) state.old state.new }
 {
-    let t = now(state);
-    if BEYOND < seconds {
-        set(state, BEYOND);
-        return;
-    }
-    set(state, t + seconds);
+    let t = if BEYOND < seconds {
+        BEYOND
+    } else {
+        now(state) + seconds
+    };
+    set(state, t);
 }
 
 // Moves it back.
@@ -58,9 +58,5 @@ pub fn earlier(state: &mut [u32], seconds: u64)
     ensures { TimeSet (earlier_of (get_or state.old 2 0) seconds) state.old state.new }
 {
     let t = now(state);
-    if t < seconds {
-        set(state, BEYOND);
-        return;
-    }
-    set(state, t - seconds);
+    set(state, if t < seconds { BEYOND } else { t - seconds });
 }

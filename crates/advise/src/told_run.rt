@@ -11,7 +11,7 @@ use sentences::write;
 
 // One cycle or many.
 fn cycles(n: u32) {
-    io::print_decimal(pieces::STDOUT_FILENO, n as u64);
+    io::print_decimal(pieces::STDOUT_FILENO, u64::from(n));
     if n == 1 {
         write::text(b" cycle");
         return;
@@ -66,16 +66,14 @@ fn one_by_one(
     requires { (0 < bound) × (bound ≤ 256) }
     ensures { RunsAlone bound 1024 parts.now texts.old plan.now waits state.old texts.new state.new result }
 {
-    let mut i = 0u32;
-    while i < bound {
+    for i in 0..bound {
         let c = cycle::enact(rows, parts, texts, plan, waits, state, i + 1);
         let r = cycle::after(i, c);
         if !cycle::is_bounded(r) {
             return r;
         }
-        i += 1;
     }
-    Ran::Bounded(i)
+    Ran::Bounded(bound)
 }
 
 // The same, where the bound is none or too high: by one run, which enacts no cycle.
@@ -90,10 +88,7 @@ fn followed(
 ) -> Ran
     ensures { RunsAlone bound 1024 parts.now texts.old plan.now waits state.old texts.new state.new result }
 {
-    if (Run::CYCLES as u64) < bound {
-        return runs::run_alone(parts, texts, plan, waits, state, Changes::ROWS, bound);
-    }
-    if bound == 0 {
+    if bound == 0 || (Run::CYCLES as u64) < bound {
         return runs::run_alone(parts, texts, plan, waits, state, Changes::ROWS, bound);
     }
     one_by_one(rows, parts, texts, plan, waits, state, bound as u32)

@@ -36,12 +36,9 @@ fn tell(
 
 // What became of every task that has the trigger; or that none has it.
 fn sent(rows: &[u32], texts: &[u8], plan: &[u32], state: &[u32], name: &[u8]) {
-    let n = known_names::count(plan, Sort::Task);
     let mut any = false;
-    let mut t = 0usize;
-    while t < n {
+    for t in 0..known_names::count(plan, Sort::Task) {
         any = tell(rows, texts, plan, state, name, t, any);
-        t += 1;
     }
     if !any {
         known_names::none(rows, texts, plan, Sort::Trigger, name);

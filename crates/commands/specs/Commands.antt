@@ -1,5 +1,5 @@
 -- What a line that is typed asks for: README's table of lines. Definitions only.
-use Rattle.std.specs.Prelude.{ℕ, Bool, true, false, cond, ◌&&◌, List, eqb, ltb, leb, length, get_or}
+use Rattle.std.specs.Prelude.{ℕ, cond, ◌&&◌, List, eqb, ltb, leb, length, get_or}
 use Rattle.typed_value.specs.Lexemes.{blankb, letterb, past, after_of}
 use Rattle.commands.specs.Words.{keyword_of}
 use Rattle.commands.specs.Names.{no_name_fn, name_of}

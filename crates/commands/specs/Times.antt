@@ -1,5 +1,5 @@
 -- Numbers and amounts of time: 3600, 6 weeks. Definitions only.
-use Rattle.std.specs.Prelude.{ℕ, suc, ◌+◌, ◌-◌, ◌*◌, Bool, true, false, cond, ◌||◌, List, [], ◌∷◌, ltb, leb, length, drop}
+use Rattle.std.specs.Prelude.{ℕ, ◌+◌, ◌-◌, ◌*◌, Bool, true, false, cond, ◌||◌, List, [], ◌∷◌, ltb, leb, length, drop}
 use Rattle.typed_value.specs.Lexemes.{blankb, digitb, letterb, past, word_at}
 use Rattle.commands.specs.declared.times.Numeral.{Numeral}
 use Rattle.commands.specs.declared.times.Amount.{Amount}

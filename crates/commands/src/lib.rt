@@ -5,7 +5,7 @@ mod keywords;
 mod names;
 mod times;
 
-ghost use Rattle.std.specs.Prelude.{◌≡◌, ◌&&◌, eqb};
+ghost use Rattle.std.specs.Prelude.{◌≡◌};
 ghost use Rattle.commands.specs.Commands.{alone_of, only_name, on_name, run_of, time_of, by_way, by_word, command_of};
 
 use keywords::Keyword;
@@ -42,16 +42,19 @@ pub enum Command {
 }
 
 // A command that nothing follows.
+#[tactic(auto, unfolding(crate::specs::Commands::alone_of))]
 fn alone(s: &[u8], at: usize, c: Command) -> Command
     ensures { result ≡ alone_of s.now at c }
 {
     if at < s.len() {
-        return Command::Unclear(at);
+        Command::Unclear(at)
+    } else {
+        c
     }
-    c
 }
 
 // A name that nothing follows; else where that is.
+#[tactic(auto, unfolding(crate::specs::Commands::only_name))]
 fn only_name(s: &[u8], at: usize) -> Name
     ensures { result ≡ only_name s.now at }
 {
@@ -60,10 +63,7 @@ fn only_name(s: &[u8], at: usize) -> Name
         return n;
     }
     let p = skip(s, n.next);
-    if p < s.len() {
-        return names::none(p);
-    }
-    n
+    if p < s.len() { names::none(p) } else { n }
 }
 
 // A command on something that has a name.
@@ -80,16 +80,11 @@ fn on_name(s: &[u8], at: usize, k: Keyword) -> Command
         Keyword::Trigger => Command::Trigger(n.from, n.to),
         Keyword::Rows => Command::Rows(n.from, n.to),
         Keyword::Why => Command::Why(n.from, n.to),
-        Keyword::Run => Command::Unclear(at),
-        Keyword::Time => Command::Unclear(at),
-        Keyword::Tree => Command::Unclear(at),
-        Keyword::Asked => Command::Unclear(at),
-        Keyword::Help => Command::Unclear(at),
-        Keyword::Quit => Command::Unclear(at),
-        Keyword::None => Command::Unclear(at),
+        _ => Command::Unclear(at),
     }
 }
 
+#[tactic(auto, unfolding(crate::specs::Commands::run_of))]
 fn run(s: &[u8], at: usize) -> Command
     ensures { result ≡ run_of s.now at }
 {
@@ -104,17 +99,15 @@ fn run(s: &[u8], at: usize) -> Command
 }
 
 // An engine time, or by how much it goes on or back.
+#[tactic(auto, unfolding(crate::specs::Commands::time_of))]
 fn time(s: &[u8], at: usize) -> Command
     ensures { result ≡ time_of s.now at }
 {
-    let b = byte(s, at);
-    if b == b'+' {
-        return by(times::amount_at(s, after(s, at)), Way::On);
+    match byte(s, at) {
+        b'+' => by(times::amount_at(s, after(s, at)), Way::On),
+        b'-' => by(times::amount_at(s, after(s, at)), Way::Back),
+        _ => by(times::amount_at(s, at), Way::To),
     }
-    if b == b'-' {
-        return by(times::amount_at(s, after(s, at)), Way::Back);
-    }
-    by(times::amount_at(s, at), Way::To)
 }
 
 // What is done with an amount of time: it is the time, it goes on by it, or back.
@@ -153,24 +146,12 @@ fn by_word(s: &[u8], from: usize, to: usize) -> Command
         Keyword::Help => alone(s, at, Command::Help),
         Keyword::Quit => alone(s, at, Command::Quit),
         Keyword::None => Command::Unclear(from),
-        Keyword::Confirm => on_name(s, at, k),
-        Keyword::Trigger => on_name(s, at, k),
-        Keyword::Rows => on_name(s, at, k),
-        Keyword::Why => on_name(s, at, k),
+        Keyword::Confirm | Keyword::Trigger | Keyword::Rows | Keyword::Why => on_name(s, at, k),
     }
-}
-
-// Whether an equals sign stands behind a name.
-fn is_given(b: u8, there: bool) -> bool
-    ensures { result ≡ (eqb b 61 && there) }
-{
-    if b == b'=' {
-        return there;
-    }
-    false
 }
 
 // What a line asks for. A name and an equals sign give a value, whatever the name is.
+#[tactic(auto, unfolding(crate::specs::Commands::command_of))]
 pub fn read(s: &[u8]) -> Command
     ensures { result ≡ command_of s.now }
 {
@@ -180,7 +161,7 @@ pub fn read(s: &[u8]) -> Command
     }
     let n = name_at(s, p);
     let q = skip(s, n.next);
-    if is_given(byte(s, q), n.there) {
+    if byte(s, q) == b'=' && n.there {
         return Command::Give(n.from, n.to, after(s, q));
     }
     by_word(s, p, word_end(s, p))

@@ -29,6 +29,7 @@ pub fn none(at: usize) -> Name
 const QUOTE: u8 = b'\'';
 
 // A name behind its opening quote.
+#[tactic(auto, unfolding(crate::specs::Names::quoted_of))]
 fn quoted(s: &[u8], from: usize) -> Name
     ensures { result ≡ quoted_of s.now from }
 {
@@ -38,13 +39,14 @@ fn quoted(s: &[u8], from: usize) -> Name
     }
     Name {
         there: true,
-        from: from,
-        to: to,
+        from,
+        to,
         next: to + 1,
     }
 }
 
 // The name that stands here.
+#[tactic(auto, unfolding(crate::specs::Names::name_of))]
 pub fn name_at(s: &[u8], at: usize) -> Name
     ensures { result ≡ name_of s.now at }
 {
@@ -58,7 +60,7 @@ pub fn name_at(s: &[u8], at: usize) -> Name
     Name {
         there: true,
         from: at,
-        to: to,
+        to,
         next: to,
     }
 }

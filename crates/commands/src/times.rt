@@ -1,6 +1,5 @@
 // Numbers and amounts of time: 3600, 6 weeks.
-ghost use Rattle.std.specs.Prelude.{◌≡◌, cond, ◌||◌, ◌≤◌};
-ghost use Rattle.typed_value.specs.Lexemes.{word_at};
+ghost use Rattle.std.specs.Prelude.{◌≡◌, ◌≤◌};
 ghost use Rattle.commands.specs.Times.{with_digit, number_of, measure_of, is_none, seconds_of, no_amount, amount_of};
 
 use typed_value::lexemes::{is_digit, is_word, skip, word_end};
@@ -18,7 +17,7 @@ const DAY: u64 = 86_400;
 const WEEK: u64 = 604_800;
 
 // What time is measured in.
-#[derive(Clone, Copy)]
+#[derive(Clone, Copy, PartialEq, Eq)]
 enum Measure {
     Seconds,
     Minutes,
@@ -53,79 +52,53 @@ fn with_digit(n: u64, b: u8) -> u64
     if GREATEST / 100 < n {
         return GREATEST;
     }
-    n * 10 + (b - b'0') as u64
+    n * 10 + u64::from(b - b'0')
 }
 
 // The number that stands here.
 pub fn number(s: &[u8], at: usize) -> Numeral
     ensures { (result.value ≤ 100000000000) × (result ≡ number_of s.now at) }
 {
-    let mut n = 0u64;
-    let mut p = at;
-    while p < s.len() {
-        if !is_digit(s[p]) {
-            return Numeral { value: n, next: p };
+    let mut value = 0;
+    for next in at..s.len() {
+        if !is_digit(s[next]) {
+            return Numeral { value, next };
         }
-        n = with_digit(n, s[p]);
-        p += 1;
+        value = with_digit(value, s[next]);
     }
-    Numeral { value: n, next: p }
+    Numeral {
+        value,
+        next: at.max(s.len()),
+    }
 }
 
-// The unit, if the word that stands between two places is it, one or many; else the other.
-fn or_else(
-    s: &[u8],
-    from: usize,
-    to: usize,
-    one: &[u8],
-    many: &[u8],
-    m: Measure,
-    other: Measure,
-) -> Measure
-    ensures { result ≡ cond (word_at s.now from to one.now || word_at s.now from to many.now) m other }
-{
-    if is_word(s, from, to, one) {
-        return m;
-    }
-    if is_word(s, from, to, many) {
-        return m;
-    }
-    other
-}
-
-// The unit that stands between two places; without one it is seconds.
+// The unit that stands between two places, one or many; without one it is seconds.
+#[tactic(auto, unfolding(crate::specs::Times::measure_of))]
 fn unit(s: &[u8], from: usize, to: usize) -> Measure
     ensures { result ≡ measure_of s.now from to }
 {
     if to <= from {
         return Measure::Seconds;
     }
-    let m = or_else(
-        s,
-        from,
-        to,
-        b"week",
-        b"weeks",
-        Measure::Weeks,
-        Measure::None,
-    );
-    let m = or_else(s, from, to, b"day", b"days", Measure::Days, m);
-    let m = or_else(s, from, to, b"hour", b"hours", Measure::Hours, m);
-    let m = or_else(s, from, to, b"minute", b"minutes", Measure::Minutes, m);
-    or_else(s, from, to, b"second", b"seconds", Measure::Seconds, m)
+    if is_word(s, from, to, b"second") || is_word(s, from, to, b"seconds") {
+        Measure::Seconds
+    } else if is_word(s, from, to, b"minute") || is_word(s, from, to, b"minutes") {
+        Measure::Minutes
+    } else if is_word(s, from, to, b"hour") || is_word(s, from, to, b"hours") {
+        Measure::Hours
+    } else if is_word(s, from, to, b"day") || is_word(s, from, to, b"days") {
+        Measure::Days
+    } else if is_word(s, from, to, b"week") || is_word(s, from, to, b"weeks") {
+        Measure::Weeks
+    } else {
+        Measure::None
+    }
 }
 
 fn is_none(m: Measure) -> bool
     ensures { result ≡ is_none m }
 {
-    match m {
-        Measure::Seconds => false,
-        Measure::Minutes => false,
-        Measure::Hours => false,
-        Measure::Days => false,
-        Measure::Weeks => false,
-        Measure::None => true,
-    }
+    m == Measure::None
 }
 
 // How many seconds so many of them are.
@@ -155,6 +128,7 @@ fn no_amount(at: usize) -> Amount
 }
 
 // The amount of time that stands here, and nothing behind it.
+#[tactic(auto, unfolding(crate::specs::Times::amount_of))]
 pub fn amount_at(s: &[u8], at: usize) -> Amount
     ensures { result ≡ amount_of s.now at }
 {

@@ -1,8 +1,9 @@
 -- The names that a loaded guideline has, by the rows x, the text bytes b and the plan f, and which of them a typed name finds. Definitions only.
-use Rattle.std.specs.Prelude.{ℕ, ◌+◌, Bool, true, cond, ◌&&◌, List, [], eqb, get_or}
+use Rattle.std.specs.Prelude.{ℕ, ◌+◌, ◌<◌, Option, MatchOption, Bool, true, cond, ◌&&◌, List, [], eqb, get_or}
 use Rattle.paper_expressions.proofs.Laws.Search.{sameb, alikeb}
 use Rattle.parts.specs.Texts.{text_at_fn}
 use Rattle.row_tests.specs.Table.{cell_of}
+use Rattle.explain_rows.specs.Firsts.{First}
 use Rattle.known_names.specs.declared.lookup.Sort.{Sort}
 use Rattle.known_names.specs.declared.lookup.Sort.TheVariants.{Task, Item, Trigger}
 
@@ -23,6 +24,10 @@ abbrev pub there_of : List ℕ → Sort → ℕ → Bool
 there_of f Task i = true
 there_of f Item i = true
 there_of f Trigger i = eqb (get_or f (40 + i) 0) 1
+
+-- the first below n that passes, or none does
+abbrev pub FoundFirst : (ℕ → Bool) → ℕ → Option ℕ → Type 0
+FoundFirst f n r = MatchOption r (First f n n) (λ i. (i < n) × First f n i)
 
 -- the i-th has the name, case aside
 abbrev pub named_at : List ℕ → List ℕ → List ℕ → Sort → List ℕ → ℕ → Bool

@@ -29,50 +29,32 @@ fn list(rows: &[u32], texts: &[u8], plan: &[u32], s: Sort) {
     write::text(b" Each ");
     sort(s);
     write::text(b":");
-    let n = count(plan, s);
-    let mut i = 0usize;
-    while i < n {
+    for i in 0..count(plan, s) {
         listed(rows, texts, plan, s, i);
-        i += 1;
     }
     write::text(b".");
 }
 
-// Whether there is one at all.
-fn any(plan: &[u32], s: Sort) -> bool {
-    let n = count(plan, s);
-    let mut i = 0usize;
-    while i < n {
-        if is_there(plan, s, i) {
-            return true;
-        }
-        i += 1;
-    }
-    false
-}
-
 // All of them, or that there is none.
 fn all_or_none(rows: &[u32], texts: &[u8], plan: &[u32], s: Sort) {
-    if any(plan, s) {
+    if (0..count(plan, s)).any(|i| is_there(plan, s, i)) {
         list(rows, texts, plan, s);
-        return;
+    } else {
+        write::text(b" There is none.");
     }
-    write::text(b" There is none.");
 }
 
 // How far off the nearest is. Triggers alone have to have the same capitals, and can be off by nothing else.
 fn how_far(off: usize) {
-    if off == 0 {
-        write::text(b"; here capital letters have to be the same.");
-        return;
+    match off {
+        0 => write::text(b"; here capital letters have to be the same."),
+        1 => write::text(b", a letter off."),
+        _ => {
+            write::text(b", ");
+            write::number(off);
+            write::text(b" letters off.");
+        }
     }
-    if off == 1 {
-        write::text(b", a letter off.");
-        return;
-    }
-    write::text(b", ");
-    write::number(off);
-    write::text(b" letters off.");
 }
 
 // The nearest, where it may have been meant, or all of them.

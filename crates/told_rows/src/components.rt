@@ -1,5 +1,5 @@
 // Rows that are lists of components, and the data items that a postcondition assigns to: by the names of the components.
-use limits::{Assignments, Marks, Sources, Tasks};
+use limits::{Assignments, Marks, Sources};
 use state::Plan;
 
 // The task `k`, behind a comma if one stands before it; whether one stands there then.
@@ -15,10 +15,8 @@ fn next_task(rows: &[u32], texts: &[u8], plan: &[u32], is_one: bool, any: bool, 
 // The tasks that are marked.
 pub fn tasks(rows: &[u32], texts: &[u8], plan: &[u32], marks: Marks) {
     let mut any = false;
-    let mut k = 0usize;
-    while k < Tasks::LIMIT {
-        any = next_task(rows, texts, plan, marks[k], any, k);
-        k += 1;
+    for (k, is_one) in marks.iter().enumerate() {
+        any = next_task(rows, texts, plan, *is_one, any, k);
     }
 }
 
@@ -37,11 +35,9 @@ pub fn sources(texts: &[u8], plan: &[u32], t: usize) {
     let first = state::cell(plan, Plan::FIRST_SOURCE, t);
     let count = state::cell(plan, Plan::SOURCES, t);
     let mut any = false;
-    let mut n = 0usize;
-    while n < Sources::LIMIT {
+    for n in 0..Sources::LIMIT {
         let d = state::cell(plan, Plan::SOURCE_ITEM, n);
         any = next_item(texts, plan, worded::is_among(first, count, n), any, d);
-        n += 1;
     }
 }
 
@@ -50,10 +46,8 @@ pub fn assigned(texts: &[u8], plan: &[u32], t: usize) {
     let first = state::cell(plan, Plan::FIRST_ASSIGNMENT, t);
     let count = state::cell(plan, Plan::ASSIGNMENTS, t);
     let mut any = false;
-    let mut a = 0usize;
-    while a < Assignments::LIMIT {
+    for a in 0..Assignments::LIMIT {
         let d = state::cell(plan, Plan::ASSIGNED_ITEM, a);
         any = next_item(texts, plan, worded::is_among(first, count, a), any, d);
-        a += 1;
     }
 }

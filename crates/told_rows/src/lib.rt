@@ -34,10 +34,8 @@ pub fn task(rows: &[u32], texts: &[u8], plan: &[u32], waits: WaitTable, state: &
     if parts::number(plan, Plan::TASKS) <= t {
         return;
     }
-    let mut p = 0u64;
-    while p < PROPERTIES {
+    for p in 0..PROPERTIES {
         task_property(rows, texts, plan, waits, state, t, p);
-        p += 1;
     }
 }
 
@@ -54,9 +52,7 @@ pub fn item(texts: &[u8], plan: &[u32], state: &[u32], d: usize) {
     if parts::number(plan, Plan::ITEMS) <= d {
         return;
     }
-    let mut p = 0u64;
-    while p < PROPERTIES {
+    for p in 0..PROPERTIES {
         item_property(texts, plan, state, d, p);
-        p += 1;
     }
 }

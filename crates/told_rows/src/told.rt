@@ -41,26 +41,22 @@ fn time(n: u32) {
 // What is shown, where that needs no name.
 fn plain(texts: &[u8], s: Shown, v: Value) {
     match s {
-        Shown::NoRow => {}
         Shown::There => write::text(b"an expression"),
         Shown::OfValue => worded::value(texts, v),
         Shown::OfState(n) => worded::state(n as usize),
         Shown::OfClass(n) => class(n),
         Shown::OfType(n) => worded::declared(n as usize),
         Shown::OfTime(n) => time(n),
-        Shown::OfComponent(_, _) => {}
-        Shown::Refused(_) => {}
+        Shown::NoRow | Shown::OfComponent(_, _) | Shown::Refused(_) => {}
     }
 }
 
 // What the row `r` of the property `p` of the task `t` holds; `before` are the tasks that it waits for.
 fn held(rows: &[u32], texts: &[u8], plan: &[u32], before: Marks, t: usize, p: u64, r: Row) {
-    let s = r.shown;
-    let v = r.value;
-    match s {
+    match r.shown {
         Shown::There => there(rows, texts, plan, before, t, p),
         Shown::OfComponent(_, n) => worded::task(rows, texts, plan, n as usize),
-        _ => plain(texts, s, v),
+        _ => plain(texts, r.shown, r.value),
     }
 }
 
@@ -68,23 +64,12 @@ fn held(rows: &[u32], texts: &[u8], plan: &[u32], before: Marks, t: usize, p: u6
 fn is_row(s: Shown) -> bool
     ensures { result ≡ there_is s }
 {
-    match s {
-        Shown::NoRow => false,
-        Shown::There => true,
-        Shown::OfValue => true,
-        Shown::OfState(_) => true,
-        Shown::OfClass(_) => true,
-        Shown::OfType(_) => true,
-        Shown::OfTime(_) => true,
-        Shown::OfComponent(_, _) => true,
-        Shown::Refused(_) => false,
-    }
+    !matches!(s, Shown::NoRow | Shown::Refused(_))
 }
 
 // The line of a row of the task `t`, if there is one.
 pub fn of_task(rows: &[u32], texts: &[u8], plan: &[u32], before: Marks, t: usize, p: u64, r: Row) {
-    let s = r.shown;
-    if !is_row(s) {
+    if !is_row(r.shown) {
         return;
     }
     properties::name(p);
@@ -95,13 +80,11 @@ pub fn of_task(rows: &[u32], texts: &[u8], plan: &[u32], before: Marks, t: usize
 
 // The line of a row of a data item, if there is one.
 pub fn of_item(texts: &[u8], p: u64, r: Row) {
-    let s = r.shown;
-    if !is_row(s) {
+    if !is_row(r.shown) {
         return;
     }
     properties::name(p);
     write::text(b": ");
-    let v = r.value;
-    plain(texts, s, v);
+    plain(texts, r.shown, r.value);
     write::text(b"\n");
 }

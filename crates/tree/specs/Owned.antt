@@ -1,5 +1,5 @@
 -- Which row is that of the n-th task, data item or source, as the plan counts them, and which is an owner's caption; and the steps of the searches.
-use Rattle.std.specs.Prelude.{ℕ, ◌+◌, ◌≤◌, ◌<◌, ◌≡◌, Bool, true, false, ◌&&◌, List, [], ◌∷◌, eqb}
+use Rattle.std.specs.Prelude.{ℕ, ◌+◌, ◌≤◌, ◌<◌, ◌≡◌, Bool, true, false, ◌&&◌, [], ◌∷◌, eqb}
 use Rattle.std.proofs.Common.{arith, sym, ap, ◌∙◌, add-one, below_more, eqb-true, eq-eqb}
 use Rattle.std.proofs.Math.Decide.{dec_lt}
 use Rattle.paper_expressions.proofs.Laws.Tests.{contra, and_l, and_r}
@@ -104,6 +104,9 @@ module _ (kind : ℕ → ℕ) (j to : ℕ) where
 
   pub caption_none : (i : ℕ) → Passing i → to ≤ i → Captioned kind j to to
   caption_none i h l = record { here = λ k. absurd (omega arith); only = λ m a k w q. no_caption (kind m) (h.1 m a (omega arith)) q }
+
+  pub caption_beyond : (i : ℕ) → Passing i → to ≤ i + 1 → Captioned kind j to to
+  caption_beyond i h l = record { here = λ k. absurd (omega arith); only = λ m a k w q. no_caption (kind m) (h.1 m a (omega arith)) q }
 
   pub passing_more : (i : ℕ) → Passing i → passed_kind (kind (i + 1)) ≡ true → Passing (i + 1)
   passing_more i h e = ((let z = h.0 in omega arith), λ m a b. below_more (λ (k : ℕ). j < k → passed_kind (kind k) ≡ true) (i + 1) (λ k d c. h.1 k c d) (λ c. e) m b a)

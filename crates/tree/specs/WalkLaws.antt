@@ -1,6 +1,6 @@
 -- Laws: one plan up, with at least one more to look at.
-use Rattle.std.specs.Prelude.{ℕ, zero, suc, ◌+◌, ◌-◌, ◌≤◌, ◌<◌, ◌≡◌, refl, true, false, List}
-use Rattle.std.proofs.Common.{arith, sym, ap, subst, ◌∙◌, eq-eqb, ne_eqb}
+use Rattle.std.specs.Prelude.{ℕ, zero, suc, ◌-◌, ◌≤◌, ◌<◌, ◌≡◌, refl, List}
+use Rattle.std.proofs.Common.{arith, subst, eq-eqb, ne_eqb}
 use Rattle.waits.specs.Twins.{parent_at}
 use Rattle.tree.specs.Walk.{Child, more_of_fn, Behind, at_root, beside, above, no_more, depth_of}
 

@@ -3,10 +3,13 @@
 #![tactic(auto)]
 
 mod captions;
+mod each;
 mod owners;
 mod requests;
+mod tables;
 mod tasks;
 mod walk;
 
-pub use requests::{asked, is_asked};
-pub use tasks::{is_waiting, show, waiting};
+pub use requests::is_asked;
+pub use tables::Tables;
+pub use tasks::is_waiting;

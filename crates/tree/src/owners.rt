@@ -1,7 +1,6 @@
 // Where a task, a data item or a source stands in the row table, and its caption.
-ghost use Rattle.std.specs.Prelude.{◌≡◌, ◌+◌, ◌<◌};
+ghost use Rattle.std.specs.Prelude.{◌≡◌, ◌<◌, MatchOption};
 ghost use Rattle.row_tests.specs.Table.{kind_of};
-ghost use Rattle.plan.specs.Writes.{one_if};
 ghost use Rattle.tree.specs.Owned.{begins_kind, passed_kind, Numbered, Captioned};
 
 use guideline_rows::{Kind, Row};
@@ -9,11 +8,11 @@ use limits::Rows;
 use row_tests::cells::kind;
 use row_tests::kinds::is_task;
 
-// The most rows of the row table: no row has this number.
-pub const NONE: usize = Rows::CELLS / Row::CELLS;
+// The most rows of the row table.
+const ROWS: usize = Rows::CELLS / Row::CELLS;
 
 // What may have a caption.
-#[derive(Clone, Copy)]
+#[derive(Clone, Copy, PartialEq, Eq)]
 pub enum Owner {
     Task,
     Item,
@@ -31,59 +30,40 @@ fn begins(o: Owner, k: usize) -> bool
     }
 }
 
-// One more, if the row counts.
-fn tick(x: usize, counts: bool) -> usize
-    requires { x < 65536 }
-    ensures { result ≡ x + one_if counts }
+// The row of the owner that has the number `n` among its kind, if there is one.
+pub fn row(rows: &[u32], o: Owner, n: usize) -> Option<usize>
+    ensures { MatchOption result (Numbered (begins_kind o) (kind_of rows.now) n 1365 1365) (λ r. (r < 1365) × Numbered (begins_kind o) (kind_of rows.now) n 1365 r) }
 {
-    if counts {
-        return x + 1;
-    }
-    x
-}
-
-// The row of the owner that has the number `n` among its kind, or NONE.
-pub fn row(rows: &[u32], o: Owner, n: usize) -> usize
-    ensures { Numbered (begins_kind o) (kind_of rows.now) n 1365 result }
-{
-    let mut seen = 0usize;
-    let mut i = 0usize;
-    while i < NONE {
+    let mut seen = 0;
+    for i in 0..ROWS {
         let counts = begins(o, kind(rows, i));
-        if waits::both(counts, seen == n) {
-            return i;
+        if counts && seen == n {
+            return Some(i);
         }
-        seen = tick(seen, counts);
-        i += 1;
+        seen += usize::from(counts);
     }
-    NONE
+    None
 }
 
 // What may stand between an owner's row and its caption.
 fn is_passed(k: usize) -> bool
     ensures { result ≡ passed_kind k }
 {
-    match k {
-        Kind::DESCRIPTION => true,
-        Kind::MANDATORY => true,
-        _ => false,
-    }
+    matches!(k, Kind::DESCRIPTION | Kind::MANDATORY)
 }
 
-// The row of the caption of the owner in the row `j`, or NONE: a caption stands behind its owner, with descriptions and mandatory between.
-pub fn caption(rows: &[u32], j: usize) -> usize
-    ensures { Captioned (kind_of rows.now) j 1365 result }
+// The row of the caption of the owner in the row `j`, if it has one: a caption stands behind its owner, with descriptions and mandatory between.
+pub fn caption(rows: &[u32], j: usize) -> Option<usize>
+    ensures { MatchOption result (Captioned (kind_of rows.now) j 1365 1365) (λ r. (r < 1365) × Captioned (kind_of rows.now) j 1365 r) }
 {
-    let mut i = j;
-    while i < NONE {
-        i += 1;
-        let k = kind(rows, i);
+    for i in j..ROWS - 1 {
+        let k = kind(rows, i + 1);
         if k == Kind::CAPTION {
-            return i;
+            return Some(i + 1);
         }
         if !is_passed(k) {
-            return NONE;
+            return None;
         }
     }
-    NONE
+    None
 }

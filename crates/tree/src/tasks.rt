@@ -3,7 +3,8 @@ ghost use Rattle.std.specs.Prelude.{◌≡◌, ◌&&◌, not};
 ghost use Rattle.state.specs.Layout.{row_is_fn};
 ghost use Rattle.completes.specs.Twins.{confirmed_case};
 
-use crate::{captions, walk};
+use crate::tables::Tables;
+use crate::{each, walk};
 use limits::Tasks;
 use sentences::write;
 use state::{Plan, Property, State, Tag};
@@ -15,34 +16,6 @@ const STATES: usize = Property::STATE as usize + Tasks::LIMIT;
 // How far a component is set in.
 const STEP: usize = 2;
 
-// The line of one task: its name, class, state and caption.
-fn line(rows: &[u32], parts: &[u32], texts: &[u8], plan: &[u32], state: &[u32], t: usize) {
-    write::blanks(walk::depth(plan, t) * STEP);
-    worded::task(rows, texts, plan, t);
-    write::text(b" (");
-    worded::class(state::cell(plan, Plan::CLASS, t));
-    write::text(b", ");
-    worded::state(state::cell(state, STATES, t));
-    write::text(b")");
-    captions::task(rows, parts, texts, plan, state, t);
-    write::text(b"\n");
-}
-
-// The tree of tasks, each component set in below its plan.
-pub fn show(rows: &[u32], parts: &[u32], texts: &[u8], plan: &[u32], state: &[u32]) {
-    let n = state::cell(plan, Plan::TASKS, 0);
-    let mut t = ROOT;
-    let mut left = Tasks::LIMIT;
-    while 0 < left {
-        if n <= t {
-            return;
-        }
-        line(rows, parts, texts, plan, state, t);
-        t = walk::next(plan, t);
-        left -= 1;
-    }
-}
-
 // Whether the task is in progress, has to be confirmed by 8.6.4, 3, and is not.
 pub fn is_waiting(plan: &[u32], state: &[u32], t: usize) -> bool
     ensures { result ≡ (row_is_fn state.now 8 t 5 2 && not (confirmed_case state.now plan.now t)) }
@@ -50,30 +23,55 @@ pub fn is_waiting(plan: &[u32], state: &[u32], t: usize) -> bool
     let runs = state::row_is(state, Property::STATE, t, Tag::STATE, State::IN_PROGRESS);
     let free = state::cell(plan, Plan::CONFIRMATORY, t) != 1;
     let told = state::row_is(state, Property::CONFIRMED, t, Tag::TRUTH, 1);
-    let done = waits::either(free, told);
-    waits::both(runs, !done)
+    runs && !(free || told)
 }
 
-// The line of a task that waits, and whether it does.
-fn told(rows: &[u32], parts: &[u32], texts: &[u8], plan: &[u32], state: &[u32], t: usize) -> bool {
-    if !is_waiting(plan, state, t) {
-        return false;
+impl Tables<'_> {
+    // The line of one task: its name, class, state and caption.
+    fn tell_line(&self, t: usize) {
+        write::blanks(walk::depth(self.plan, t) * STEP);
+        self.name_task(t);
+        write::text(b" (");
+        worded::class(state::cell(self.plan, Plan::CLASS, t));
+        write::text(b", ");
+        worded::state(state::cell(self.state, STATES, t));
+        write::text(b")");
+        self.task_caption(t);
+        write::text(b"\n");
     }
-    worded::task(rows, texts, plan, t);
-    captions::task(rows, parts, texts, plan, state, t);
-    write::text(b"\n");
-    true
-}
 
-// The tasks that wait to be confirmed.
-pub fn waiting(rows: &[u32], parts: &[u32], texts: &[u8], plan: &[u32], state: &[u32]) {
-    let mut any = false;
-    let mut t = 0usize;
-    while t < Tasks::LIMIT {
-        any = waits::either(told(rows, parts, texts, plan, state, t), any);
-        t += 1;
+    // The tree of tasks, each component set in below its plan.
+    pub fn show(&self) {
+        let n = state::cell(self.plan, Plan::TASKS, 0);
+        let mut next = Some(ROOT);
+        for _turn in 0..Tasks::LIMIT {
+            match next {
+                Some(t) if t < n => {
+                    self.tell_line(t);
+                    next = walk::next(self.plan, t);
+                }
+                _ => return,
+            }
+        }
     }
-    if !any {
-        write::text(b"No task waits to be confirmed.\n");
+
+    // The line of a task that waits, and whether it does.
+    fn tell_waiting(&self, t: usize) -> bool {
+        if !is_waiting(self.plan, self.state, t) {
+            return false;
+        }
+        self.name_task(t);
+        self.task_caption(t);
+        write::text(b"\n");
+        true
+    }
+
+    // The tasks that wait to be confirmed.
+    pub fn waiting(&self) {
+        each::or_none(
+            Tasks::LIMIT,
+            b"No task waits to be confirmed.\n",
+            |t| self.tell_waiting(t),
+        );
     }
 }

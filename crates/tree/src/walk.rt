@@ -1,66 +1,57 @@
 // The tasks in the order in which a tree is shown: a plan, then each of its components with all that is below it.
-ghost use Rattle.std.specs.Prelude.{◌≡◌, ◌≤◌};
+ghost use Rattle.std.specs.Prelude.{◌≡◌, ◌≤◌, ◌<◌, MatchOption};
 ghost use Rattle.tree.specs.Walk.{Child, more_of_fn, Behind, Next, depth_of};
 
 use limits::Tasks;
 use state::Plan;
 
-// The first task from `from` on whose parent and one is `x`, or the limit.
-fn child(plan: &[u32], x: usize, from: usize) -> usize
-    ensures { Child plan.now x from result }
+// The first task from `from` on whose parent and one is `x`.
+fn child(plan: &[u32], x: usize, from: usize) -> Option<usize>
+    ensures { MatchOption result (Child plan.now x from 32) (λ r. (r < 32) × Child plan.now x from r) }
 {
-    let mut t = from;
-    while t < Tasks::LIMIT {
+    for t in from..Tasks::LIMIT {
         if state::cell(plan, Plan::PARENT, t) == x {
-            return t;
+            return Some(t);
         }
-        t += 1;
     }
-    Tasks::LIMIT
+    None
 }
 
-// The task behind `t` and all that is below it, or the limit: the next component of its plan, or of the plan above.
-fn behind(plan: &[u32], t: usize) -> usize
-    ensures { Behind plan.now 32 t result }
+// The task behind `t` and all that is below it: the next component of its plan, or of the plan above.
+fn behind(plan: &[u32], t: usize) -> Option<usize>
+    ensures { MatchOption result (Behind plan.now 32 t 32) (λ r. (r < 32) × Behind plan.now 32 t r) }
 {
     let mut u = t;
-    let mut left = Tasks::LIMIT;
-    while 0 < left {
-        left -= 1;
+    for _up in 0..Tasks::LIMIT {
         let x = state::cell(plan, Plan::PARENT, u);
         if x == 0 {
-            return Tasks::LIMIT;
+            return None;
         }
-        let c = child(plan, x, more(u));
-        if c < Tasks::LIMIT {
-            return c;
+        match child(plan, x, more(u)) {
+            Some(c) => return Some(c),
+            None => u = x - 1,
         }
-        u = x - 1;
     }
-    Tasks::LIMIT
+    None
 }
 
 fn more(u: usize) -> usize
     ensures { result ≡ more_of_fn u }
 {
-    if u < Tasks::LIMIT {
-        return u + 1;
-    }
-    u
+    if u < Tasks::LIMIT { u + 1 } else { u }
 }
 
 // The task that is shown after `t`: its first component, or what is behind it.
-pub fn next(plan: &[u32], t: usize) -> usize
-    ensures { Next plan.now t result }
+pub fn next(plan: &[u32], t: usize) -> Option<usize>
+    ensures { MatchOption result (Next plan.now t 32) (λ r. (r < 32) × Next plan.now t r) }
 {
     if Tasks::LIMIT <= t {
-        return Tasks::LIMIT;
+        return None;
     }
-    let c = child(plan, t + 1, 0);
-    if c < Tasks::LIMIT {
-        return c;
+    match child(plan, t + 1, 0) {
+        Some(c) => Some(c),
+        None => behind(plan, t),
     }
-    behind(plan, t)
 }
 
 // How many plans are above a task, at most as many as there can be tasks.
@@ -68,14 +59,12 @@ pub fn depth(plan: &[u32], t: usize) -> usize
     ensures { (result ≤ 32) × (result ≡ depth_of plan.now 32 t) }
 {
     let mut u = t;
-    let mut n = 0usize;
-    while n < Tasks::LIMIT {
+    for n in 0..Tasks::LIMIT {
         let x = state::cell(plan, Plan::PARENT, u);
         if x == 0 {
             return n;
         }
         u = x - 1;
-        n += 1;
     }
-    n
+    Tasks::LIMIT
 }

@@ -1,6 +1,6 @@
 -- Laws: bytes that move to the front one by one, and a buffer that has its line.
-use Rattle.std.specs.Prelude.{ℕ, ◌+◌, ◌-◌, ◌≤◌, ◌<◌, ◌≡◌, refl, Bool, true, false, ◌⊎◌, List, eqb, ltb, length, get_or, set}
-use Rattle.std.proofs.Common.{arith, sym, ap, subst, ◌∙◌, inl, inr, ⊎_elim, length-set, get_or-set_same, get_or-set_other, eqb-true, ltb-true, ltb-false}
+use Rattle.std.specs.Prelude.{ℕ, ◌+◌, ◌-◌, ◌≤◌, ◌<◌, ◌≡◌, refl, true, false, ◌⊎◌, List, eqb, ltb, length, get_or, set}
+use Rattle.std.proofs.Common.{arith, ◌∙◌, ⊎_elim, length-set, get_or-set_same, get_or-set_other, eqb-true, ltb-true, ltb-false}
 use Rattle.std.proofs.lemmas.Bool.{eqb-false}
 use Rattle.paper_expressions.proofs.Laws.Tests.{two}
 use Rattle.typed_lines.specs.Lines.{Newline, Ends, HasLine, Shifted}

@@ -45,12 +45,10 @@ fn more(stdin: &mut Stdin, buffer: &mut [u8], n: usize) -> usize
 pub fn newline(buffer: &[u8], n: usize) -> usize
     ensures { Newline buffer.now n result }
 {
-    let mut i = 0usize;
-    while i < n {
+    for i in 0..n {
         if parts::byte(buffer, i) == b'\n' {
             return i;
         }
-        i += 1;
     }
     n
 }
@@ -79,24 +77,19 @@ fn read_on(stdin: &mut Stdin, buffer: &mut [u8], h: Held) -> Held
 fn is_line(buffer: &[u8], h: Held) -> bool
     ensures { (result ≡ true → HasLine buffer.now h) × (HasLine buffer.now h → result ≡ true) }
 {
-    if h.ended {
-        return true;
-    }
-    newline(buffer, h.bytes) < h.bytes
+    h.ended || newline(buffer, h.bytes) < h.bytes
 }
 
-// Reads until there is a line, or the input has ended. A proved loop has to end, so it counts its turns down, from a number that no line uses up: it ends the input.
+// Reads until there is a line, or the input has ended. A proved loop has to end, so its turns are counted, up to a number that no line uses up: it ends the input.
 pub fn next(stdin: &mut Stdin, buffer: &mut [u8], h: Held) -> Held
     ensures { LineHeld buffer.old h buffer.new result }
 {
-    let mut turns = u64::MAX;
     let mut now = h;
-    while 0 < turns {
+    for _turn in 0..u64::MAX {
         if is_line(buffer, now) {
             return now;
         }
         now = read_on(stdin, buffer, now);
-        turns -= 1;
     }
     Held {
         bytes: now.bytes,
@@ -130,14 +123,8 @@ pub fn drop(buffer: &mut [u8], h: Held, end: usize) -> Held
 fn shift(buffer: &mut [u8], from: usize, to: usize)
     ensures { Shifted buffer.old from to buffer.new }
 {
-    let mut i = from;
-    let mut k = 0usize;
-    while i < to {
-        if buffer.len() <= i {
-            return;
-        }
-        buffer[k] = buffer[i];
-        i += 1;
-        k += 1;
+    let end = to.min(buffer.len());
+    if from < end {
+        buffer.copy_within(from..end, 0);
     }
 }

@@ -16,10 +16,9 @@ pub fn ask(terminal: bool) {
 
 // Once it is read.
 pub fn echo(terminal: bool, line: &[u8]) {
-    if terminal {
-        return;
+    if !terminal {
+        write::text(b"> ");
+        write::part(line, 0, line.len());
+        write::text(b"\n");
     }
-    write::text(b"> ");
-    write::part(line, 0, line.len());
-    write::text(b"\n");
 }

@@ -59,9 +59,9 @@ pub fn found(tag: u32, number: i64, place: usize) -> Element
     ensures { result ≡ record { tag = tag; number = number; place = place; slip = Fine } }
 {
     Element {
-        tag: tag,
-        number: number,
-        place: place,
+        tag,
+        number,
+        place,
         slip: Slip::Fine,
     }
 }
@@ -72,8 +72,8 @@ pub fn wrong(place: usize, slip: Slip) -> Element
     Element {
         tag: Kind::UNKNOWN,
         number: 0,
-        place: place,
-        slip: slip,
+        place,
+        slip,
     }
 }
 
@@ -81,16 +81,12 @@ pub fn wrong(place: usize, slip: Slip) -> Element
 fn slip_of(b: u8) -> Slip
     ensures { result ≡ slip_of b }
 {
-    if b == b'[' {
-        return Slip::Nested;
+    match b {
+        b'[' => Slip::Nested,
+        b'.' => Slip::Digits,
+        b'\'' => Slip::Bare,
+        _ => Slip::Missing,
     }
-    if b == b'.' {
-        return Slip::Digits;
-    }
-    if b == b'\'' {
-        return Slip::Bare;
-    }
-    Slip::Missing
 }
 
 // What stands here and begins no element but, it may be, a word.
@@ -100,9 +96,10 @@ fn other(s: &[u8], at: usize, bytes: &mut [u8], i: usize) -> Element
 {
     let b = byte(s, at);
     if is_letter(b) {
-        return words::word(s, at, bytes, i);
+        words::word(s, at, bytes, i)
+    } else {
+        wrong(at, slip_of(b))
     }
-    wrong(at, slip_of(b))
 }
 
 // The i-th element; its text goes to its place among the bytes.
@@ -110,15 +107,10 @@ pub fn read(s: &[u8], at: usize, bytes: &mut [u8], i: usize) -> Element
     requires { i < 20 }
     ensures { Onward s.now at result.place × (result ≡ element_of i (element_at s.now at)) × (bytes.new ≡ text_after i (element_at s.now at) bytes.old) }
 {
-    let b = byte(s, at);
-    if b == b'"' {
-        return texts::inside(s, after(s, at), bytes, i);
+    match byte(s, at) {
+        b'"' => texts::inside(s, after(s, at), bytes, i),
+        b'-' => numerals::unsigned(s, after(s, at), true),
+        b if is_digit(b) => numerals::unsigned(s, at, false),
+        _ => other(s, at, bytes, i),
     }
-    if b == b'-' {
-        return numerals::unsigned(s, after(s, at), true);
-    }
-    if is_digit(b) {
-        return numerals::unsigned(s, at, false);
-    }
-    other(s, at, bytes, i)
 }

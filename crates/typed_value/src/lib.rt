@@ -33,15 +33,15 @@ pub enum Typed {
 fn ended(s: &[u8], t: Step) -> Typed
     ensures { Placed s.now t.place result × (result ≡ ended_of s.now t.slip t.place) }
 {
-    let slip = t.slip;
-    if !steps::is_fine(slip) {
-        return Typed::Wrong(slip, t.place);
+    if !steps::is_fine(t.slip) {
+        return Typed::Wrong(t.slip, t.place);
     }
     let p = skip(s, t.place);
     if p < s.len() {
-        return Typed::Wrong(Slip::Behind, p);
+        Typed::Wrong(Slip::Behind, p)
+    } else {
+        Typed::Value
     }
-    Typed::Value
 }
 
 // The value that is all of a text from a place on.

@@ -35,8 +35,7 @@ fn put_element(
     let e = elements::read(s, at, bytes, i);
     put_cell(tags, 1 + i, e.tag);
     put_number(numbers, 1 + i, e.number);
-    let slip = e.slip;
-    reached(e.place, slip)
+    reached(e.place, e.slip)
 }
 
 // A step in a list, and whether another element follows.
@@ -50,11 +49,7 @@ struct Turn {
 fn turned(place: usize, slip: Slip, more: bool) -> Turn
     ensures { result ≡ record { place = place; slip = slip; more = more } }
 {
-    Turn {
-        place: place,
-        slip: slip,
-        more: more,
-    }
+    Turn { place, slip, more }
 }
 
 // Where the element behind a comma begins.
@@ -69,14 +64,11 @@ fn behind(s: &[u8], at: usize) -> Turn
     ensures { Onward s.now at result.place × (result ≡ behind_of s.now at) }
 {
     let q = skip(s, at);
-    let b = byte(s, q);
-    if b == b']' {
-        return turned(after(s, q), Slip::Fine, false);
+    match byte(s, q) {
+        b']' => turned(after(s, q), Slip::Fine, false),
+        b',' => turned(next(s, q), Slip::Fine, true),
+        _ => turned(q, Slip::Separator, false),
     }
-    if b == b',' {
-        return turned(next(s, q), Slip::Fine, true);
-    }
-    turned(q, Slip::Separator, false)
 }
 
 // Reads the i-th element and what stands behind it.
@@ -92,11 +84,11 @@ fn take_turn(
     ensures { Onward s.now at result.place × (result ≡ turn_of s.now (element_at s.now at)) × ElementPut i (element_at s.now at) tags.old numbers.old bytes.old tags.new numbers.new bytes.new }
 {
     let t = put_element(s, at, tags, numbers, bytes, i);
-    let slip = t.slip;
-    if is_fine(slip) {
-        return behind(s, t.place);
+    if is_fine(t.slip) {
+        behind(s, t.place)
+    } else {
+        turned(t.place, t.slip, false)
     }
-    turned(t.place, slip, false)
 }
 
 // The shape of a list of n elements.
@@ -112,15 +104,12 @@ fn elements_of(s: &[u8], at: usize, tags: &mut [u32], numbers: &mut [i64], bytes
     ensures { Onward s.now at result.place × ListRead 0 tags.old numbers.old bytes.old tags.new numbers.new bytes.new result (elements_at 20 s.now at) }
 {
     let mut p = at;
-    let mut n = 0usize;
-    while n < Room::ELEMENTS {
-        let t = take_turn(s, p, tags, numbers, bytes, n);
-        n += 1;
+    for i in 0..Room::ELEMENTS {
+        let t = take_turn(s, p, tags, numbers, bytes, i);
         p = t.place;
         if !t.more {
-            put_shape(tags, n);
-            let slip = t.slip;
-            return reached(p, slip);
+            put_shape(tags, i + 1);
+            return reached(p, t.slip);
         }
     }
     reached(p, Slip::Many)

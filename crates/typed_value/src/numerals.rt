@@ -34,23 +34,24 @@ fn with_digit(n: u64, b: u8) -> u64
     if GREAT < n {
         return GREATEST;
     }
-    n * 10 + (b - b'0') as u64
+    n * 10 + u64::from(b - b'0')
 }
 
 // The digits that stand here.
 fn digits(s: &[u8], at: usize) -> Numeral
     ensures { Onward s.now at result.place × (result.value ≤ 10000000000) × (result.value ≡ kept_number (decimal 0 (drop at s.now))) × (result.place ≡ past digitb s.now at) }
 {
-    let mut n = 0u64;
-    let mut p = at;
-    while p < s.len() {
-        if !is_digit(s[p]) {
-            return Numeral { value: n, place: p };
+    let mut value = 0;
+    for place in at..s.len() {
+        if !is_digit(s[place]) {
+            return Numeral { value, place };
         }
-        n = with_digit(n, s[p]);
-        p += 1;
+        value = with_digit(value, s[place]);
     }
-    Numeral { value: n, place: p }
+    Numeral {
+        value,
+        place: at.max(s.len()),
+    }
 }
 
 // A number with its sign; one beyond every limit stands for all that are.
@@ -61,10 +62,8 @@ fn signed(minus: bool, n: u64) -> i64
     if zero < n {
         return parts::literal(u32::MAX);
     }
-    if minus {
-        return parts::literal((zero - n) as u32);
-    }
-    parts::literal((zero + n) as u32)
+    let x = if minus { zero - n } else { zero + n };
+    parts::literal(x as u32)
 }
 
 // The thousandths that so many digits behind the point stand for.
@@ -72,13 +71,11 @@ fn thousandths(n: u64, count: usize) -> u64
     requires { n ≤ 10000000000 }
     ensures { (result ≤ 1000000000000) × (result ≡ thousandths_of n count) }
 {
-    if count == 1 {
-        return n * 100;
+    match count {
+        1 => n * 100,
+        2 => n * 10,
+        _ => n,
     }
-    if count == 2 {
-        return n * 10;
-    }
-    n
 }
 
 // A real, whose point stands here.

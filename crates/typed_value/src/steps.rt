@@ -3,7 +3,7 @@ ghost use Rattle.std.specs.Prelude.{◌≡◌};
 ghost use Rattle.typed_value.specs.Lexemes.{fine};
 
 // What is wrong.
-#[derive(Clone, Copy)]
+#[derive(Clone, Copy, PartialEq, Eq)]
 pub enum Slip {
     // nothing
     Fine,
@@ -36,25 +36,11 @@ pub struct Step {
 pub fn reached(place: usize, slip: Slip) -> Step
     ensures { result ≡ record { place = place; slip = slip } }
 {
-    Step {
-        place: place,
-        slip: slip,
-    }
+    Step { place, slip }
 }
 
 pub fn is_fine(slip: Slip) -> bool
     ensures { result ≡ fine slip }
 {
-    match slip {
-        Slip::Fine => true,
-        Slip::Missing => false,
-        Slip::Bare => false,
-        Slip::Unclosed => false,
-        Slip::Digits => false,
-        Slip::Decimals => false,
-        Slip::Separator => false,
-        Slip::Nested => false,
-        Slip::Many => false,
-        Slip::Behind => false,
-    }
+    slip == Slip::Fine
 }

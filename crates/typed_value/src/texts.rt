@@ -18,10 +18,7 @@ const QUOTE: u8 = b'"';
 pub fn kept(n: usize) -> usize
     ensures { (result ≤ 63) × (result ≡ kept_of_fn n) }
 {
-    if n < Room::KEPT {
-        return n;
-    }
-    Room::KEPT
+    n.min(Room::KEPT)
 }
 
 // The text of the i-th element: `n` bytes from here on, to its place among the bytes. The answer is its handle.

@@ -14,10 +14,7 @@ use crate::texts::copy;
 fn is_answer(s: &[u8], from: usize, to: usize) -> bool
     ensures { result ≡ (word_at s.now from to “yes” || word_at s.now from to “no”) }
 {
-    if is_word(s, from, to, b"yes") {
-        return true;
-    }
-    is_word(s, from, to, b"no")
+    is_word(s, from, to, b"yes") || is_word(s, from, to, b"no")
 }
 
 // The word that stands here, as the i-th element.

@@ -36,19 +36,19 @@ pub fn next(parts: &[u32], texts: &[u8], plan: &[u32], waits: WaitTable, state: 
     let discards = passes::discarded(state, plan, waits, pre, wait, ended);
     let completes = passes::completed(state, plan, starts, discards, initialises);
     Review {
-        pre: pre,
-        wait: wait,
-        ends: ends,
-        starts: starts,
-        initialises: initialises,
-        ended: ended,
-        discards: discards,
-        completes: completes,
+        pre,
+        wait,
+        ends,
+        starts,
+        initialises,
+        ended,
+        discards,
+        completes,
     }
 }
 
 // What the review performs.
-#[derive(Drop)]
+#[derive(Clone, Copy, PartialEq, Eq)]
 pub enum Move {
     Initialise,
     Start,
@@ -62,32 +62,26 @@ fn first(initialises: bool, starts: bool, discards: bool, completes: bool) -> Mo
     ensures { result ≡ move_f initialises starts discards completes }
 {
     if initialises {
-        return Move::Initialise;
+        Move::Initialise
+    } else if starts {
+        Move::Start
+    } else if discards {
+        Move::Discard
+    } else if completes {
+        Move::Complete
+    } else {
+        Move::Nothing
     }
-    if starts {
-        return Move::Start;
-    }
-    if discards {
-        return Move::Discard;
-    }
-    if completes {
-        return Move::Complete;
-    }
-    Move::Nothing
 }
 
 // What the next cycle does with the task `t`.
 pub fn ahead(n: Review, t: usize) -> Move
     ensures { result ≡ move_f (marked n.initialises t) (marked n.starts t) (marked n.discards t) (marked n.completes t) }
 {
-    let initialises = n.initialises;
-    let starts = n.starts;
-    let discards = n.discards;
-    let completes = n.completes;
     first(
-        waits::mark(initialises, t),
-        waits::mark(starts, t),
-        waits::mark(discards, t),
-        waits::mark(completes, t),
+        waits::mark(n.initialises, t),
+        waits::mark(n.starts, t),
+        waits::mark(n.discards, t),
+        waits::mark(n.completes, t),
     )
 }

@@ -3,6 +3,7 @@ use crate::mentions;
 use limits::{DataItems, Tasks};
 use sentences::write;
 use state::{Property, Values};
+use tree::Tables;
 
 // The cells of the values of all data items, and where the numbers of the states stand.
 const VALUES: usize = Values::CELLS * DataItems::LIMIT;
@@ -11,88 +12,56 @@ const STATES: usize = Property::STATE as usize + Tasks::LIMIT;
 
 // What stands before one: a colon before the first.
 fn before(any: bool) {
-    if any {
-        write::text(b", ");
-        return;
-    }
-    write::text(b": ");
+    write::text(if any { b", " } else { b": " });
 }
 
-// The value of the data item `d`, if it is named; whether anything is told then.
-fn item(texts: &[u8], plan: &[u32], state: &[u32], is_named: bool, any: bool, d: usize) -> bool {
-    if !is_named {
-        return any;
-    }
-    before(any);
-    worded::item(texts, plan, d);
+// The value of the data item `d`.
+fn item(g: Tables, d: usize) {
+    g.name_item(d);
     write::text(b" is ");
-    let tags = truths::part(state, Values::TAGS, VALUES);
-    let nums = truths::part(state, Values::NUMBERS, VALUES);
-    worded::value(texts, evaluator::value(tags, nums, d));
-    true
+    let tags = truths::part(g.state, Values::TAGS, VALUES);
+    let nums = truths::part(g.state, Values::NUMBERS, VALUES);
+    worded::value(g.texts, evaluator::value(tags, nums, d));
 }
 
-fn items(parts: &[u32], texts: &[u8], plan: &[u32], state: &[u32], e: usize) -> bool {
-    let m = mentions::items(parts, texts, plan, e);
+// The data items that are named; whether there are any.
+fn items(g: Tables, e: usize) -> bool {
+    let m = mentions::items(g.parts, g.texts, g.plan, e);
     let mut any = false;
-    let mut d = 0usize;
-    while d < DataItems::LIMIT {
-        any = item(texts, plan, state, m[d], any, d);
-        d += 1;
+    for d in 0..DataItems::LIMIT {
+        if m[d] {
+            before(any);
+            item(g, d);
+            any = true;
+        }
     }
     any
 }
 
-// The state of the task `t`, if it is asked for; whether anything is told then.
-fn task(
-    rows: &[u32],
-    texts: &[u8],
-    plan: &[u32],
-    state: &[u32],
-    is_named: bool,
-    any: bool,
-    t: usize,
-) -> bool {
-    if !is_named {
-        return any;
-    }
-    before(any);
-    worded::task(rows, texts, plan, t);
+// The state of the task `t`.
+fn task(g: Tables, t: usize) {
+    g.name_task(t);
     write::text(b" is ");
-    worded::state(state::cell(state, STATES, t));
-    true
+    worded::state(state::cell(g.state, STATES, t));
 }
 
-fn tasks(
-    rows: &[u32],
-    parts: &[u32],
-    texts: &[u8],
-    plan: &[u32],
-    state: &[u32],
-    e: usize,
-    any: bool,
-) {
-    let m = mentions::tasks(parts, texts, plan, e);
-    let mut told = any;
-    let mut t = 0usize;
-    while t < Tasks::LIMIT {
-        told = task(rows, texts, plan, state, m[t], told, t);
-        t += 1;
+// The tasks that are asked for, behind what was told before, if it was.
+fn tasks(g: Tables, e: usize, told: bool) {
+    let m = mentions::tasks(g.parts, g.texts, g.plan, e);
+    let mut any = told;
+    for t in 0..Tasks::LIMIT {
+        if m[t] {
+            before(any);
+            task(g, t);
+            any = true;
+        }
     }
 }
 
 // The sentence on the expression that ends at `e`: `words`, and what it is made of now.
-pub fn tell(
-    rows: &[u32],
-    parts: &[u32],
-    texts: &[u8],
-    plan: &[u32],
-    state: &[u32],
-    words: &[u8],
-    e: usize,
-) {
+pub fn tell(g: Tables, words: &[u8], e: usize) {
     write::text(words);
-    let any = items(parts, texts, plan, state, e);
-    tasks(rows, parts, texts, plan, state, e, any);
+    let any = items(g, e);
+    tasks(g, e, any);
     write::text(b".\n");
 }

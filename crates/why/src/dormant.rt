@@ -3,113 +3,63 @@ use crate::condition;
 use limits::{Marks, Tasks, WaitTable};
 use sentences::{slips, write};
 use state::{Plan, Property};
+use tree::Tables;
 use waits::ended;
 
 const STATES: usize = Property::STATE as usize + Tasks::LIMIT;
 
 // The task `a`, and its state.
-fn which(rows: &[u32], texts: &[u8], plan: &[u32], state: &[u32], a: usize) {
-    worded::task(rows, texts, plan, a);
+fn which(g: Tables, a: usize) {
+    g.name_task(a);
     write::text(b", which is ");
-    worded::state(state::cell(state, STATES, a));
+    worded::state(state::cell(g.state, STATES, a));
     write::text(b".\n");
 }
 
 // The parent is not in progress; `x` is the parent and one.
-fn parent(rows: &[u32], texts: &[u8], plan: &[u32], state: &[u32], x: usize) {
-    if x == 0 {
-        return;
+fn parent(g: Tables, x: usize) {
+    if 0 < x {
+        write::text(b"  It waits for its plan ");
+        which(g, x - 1);
     }
-    write::text(b"  It waits for its plan ");
-    which(rows, texts, plan, state, x - 1);
 }
 
-// 8.6.6, 1: a task that it waits for, if that is not over.
-fn antecedent(rows: &[u32], texts: &[u8], plan: &[u32], state: &[u32], waits: bool, a: usize) {
-    if !waits {
-        return;
-    }
-    if ended(state, a) {
-        return;
-    }
-    write::text(b"  It waits for ");
-    which(rows, texts, plan, state, a);
-}
-
-fn antecedents(rows: &[u32], texts: &[u8], plan: &[u32], state: &[u32], row: Marks) {
-    let mut a = 0usize;
-    while a < Tasks::LIMIT {
-        antecedent(rows, texts, plan, state, row[a], a);
-        a += 1;
+// 8.6.6, 1: the tasks that it waits for, of those that are not over.
+fn antecedents(g: Tables, row: Marks) {
+    for a in 0..Tasks::LIMIT {
+        if row[a] && !ended(g.state, a) {
+            write::text(b"  It waits for ");
+            which(g, a);
+        }
     }
 }
 
 // 8.6.6, 2, and 8.6.5, 4: the conditions that are not true.
-fn untrue(
-    rows: &[u32],
-    parts: &[u32],
-    texts: &[u8],
-    plan: &[u32],
-    state: &[u32],
-    pre: bool,
-    wait: bool,
-    t: usize,
-) {
+fn untrue(g: Tables, pre: bool, wait: bool, t: usize) {
     if !wait {
-        let e = state::cell(plan, Plan::WAIT_CONDITION, t);
-        condition::tell(
-            rows,
-            parts,
-            texts,
-            plan,
-            state,
-            b"  Its wait_condition is not true",
-            e,
-        );
+        let e = state::cell(g.plan, Plan::WAIT_CONDITION, t);
+        condition::tell(g, b"  Its wait_condition is not true", e);
     }
     if !pre {
-        let e = state::cell(plan, Plan::PRECONDITION, t);
-        condition::tell(
-            rows,
-            parts,
-            texts,
-            plan,
-            state,
-            b"  Its precondition is not true",
-            e,
-        );
+        let e = state::cell(g.plan, Plan::PRECONDITION, t);
+        condition::tell(g, b"  Its precondition is not true", e);
     }
 }
 
 // A task with a trigger starts by that alone.
-fn trigger(texts: &[u8], plan: &[u32], t: usize) {
+fn trigger(g: Tables, t: usize) {
     write::text(b"  It waits for its trigger ");
-    slips::name(texts, state::cell(plan, Plan::TRIGGER, t));
+    slips::name(g.texts, state::cell(g.plan, Plan::TRIGGER, t));
     write::text(b".\n");
 }
 
-pub fn tell(
-    rows: &[u32],
-    parts: &[u32],
-    texts: &[u8],
-    plan: &[u32],
-    waits: WaitTable,
-    state: &[u32],
-    pre: bool,
-    wait: bool,
-    t: usize,
-) {
-    if !conditions::parent_runs(state, plan, t) {
-        parent(rows, texts, plan, state, state::cell(plan, Plan::PARENT, t));
-        return;
+pub fn tell(g: Tables, waits: WaitTable, pre: bool, wait: bool, t: usize) {
+    if !conditions::parent_runs(g.state, g.plan, t) {
+        parent(g, state::cell(g.plan, Plan::PARENT, t));
+    } else if state::cell(g.plan, Plan::TRIGGERED, t) == 1 {
+        trigger(g, t);
+    } else if t < Tasks::LIMIT {
+        antecedents(g, waits[t]);
+        untrue(g, pre, wait, t);
     }
-    if state::cell(plan, Plan::TRIGGERED, t) == 1 {
-        trigger(texts, plan, t);
-        return;
-    }
-    if Tasks::LIMIT <= t {
-        return;
-    }
-    antecedents(rows, texts, plan, state, waits[t]);
-    untrue(rows, parts, texts, plan, state, pre, wait, t);
 }

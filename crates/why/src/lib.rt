@@ -16,6 +16,7 @@ use ahead::{Move, Review};
 use limits::{Marks, Tasks, WaitTable};
 use sentences::write;
 use state::{Plan, Property, State, Tag};
+use tree::Tables;
 use waits::mark;
 
 // Where the Exception flag stands in the state table, and the numbers of the states.
@@ -25,12 +26,11 @@ const STATES: usize = Property::STATE as usize + Tasks::LIMIT;
 
 // Since when, if the row of the property that begins at `p` holds a time.
 fn since(state: &[u32], p: u16, t: usize) {
-    let q = p as usize;
-    if state::cell(state, q, t) != Tag::TIME {
-        return;
+    let q = usize::from(p);
+    if state::cell(state, q, t) == Tag::TIME {
+        write::text(b" since engine time ");
+        write::number(state::cell(state, q + Tasks::LIMIT, t));
     }
-    write::text(b" since engine time ");
-    write::number(state::cell(state, q + Tasks::LIMIT, t));
 }
 
 // The time of the state with the number `n`; a dormant task has none.
@@ -44,12 +44,12 @@ fn time(state: &[u32], n: usize, t: usize) {
 }
 
 // The task and its state.
-fn head(rows: &[u32], texts: &[u8], plan: &[u32], state: &[u32], t: usize) {
-    let n = state::cell(state, STATES, t);
-    worded::task(rows, texts, plan, t);
+fn head(g: Tables, t: usize) {
+    let n = state::cell(g.state, STATES, t);
+    g.name_task(t);
     write::text(b" is ");
     worded::state(n);
-    time(state, n, t);
+    time(g.state, n, t);
     write::text(b".\n");
 }
 
@@ -57,125 +57,53 @@ fn head(rows: &[u32], texts: &[u8], plan: &[u32], state: &[u32], t: usize) {
 fn of_plan(marks: Marks, x: usize) -> bool
     ensures { (x ≡ 0 → result ≡ false) × (0 < x → result ≡ marked marks (x - 1)) }
 {
-    if x == 0 {
-        return false;
-    }
-    mark(marks, x - 1)
+    0 < x && mark(marks, x - 1)
 }
 
 // A task that the next cycle leaves as it is: what it waits for.
-fn stays(
-    rows: &[u32],
-    parts: &[u32],
-    texts: &[u8],
-    plan: &[u32],
-    waits: WaitTable,
-    state: &[u32],
-    n: Review,
-    t: usize,
-) {
-    let pre = n.pre;
-    let wait = n.wait;
-    match state::cell(state, STATES, t) {
-        State::DORMANT => dormant::tell(
-            rows,
-            parts,
-            texts,
-            plan,
-            waits,
-            state,
-            mark(pre, t),
-            mark(wait, t),
-            t,
-        ),
-        State::IN_PROGRESS => running::tell(rows, parts, texts, plan, state, n, t),
+fn stays(g: Tables, waits: WaitTable, n: Review, t: usize) {
+    match state::cell(g.state, STATES, t) {
+        State::DORMANT => dormant::tell(g, waits, mark(n.pre, t), mark(n.wait, t), t),
+        State::IN_PROGRESS => running::tell(g, n, t),
         _ => {}
     }
 }
 
 // What initialises the task.
-fn initialised(rows: &[u32], texts: &[u8], plan: &[u32], n: Review, t: usize) {
-    let starts = n.starts;
-    let initialises = n.initialises;
-    let x = state::cell(plan, Plan::PARENT, t);
-    leaving::initialised(
-        rows,
-        texts,
-        plan,
-        of_plan(starts, x),
-        of_plan(initialises, x),
-        t,
-    );
+fn initialised(g: Tables, n: Review, t: usize) {
+    let x = state::cell(g.plan, Plan::PARENT, t);
+    leaving::initialised(g, of_plan(n.starts, x), of_plan(n.initialises, x), t);
 }
 
 // What discards the task.
-fn discarded(
-    rows: &[u32],
-    parts: &[u32],
-    texts: &[u8],
-    plan: &[u32],
-    waits: WaitTable,
-    state: &[u32],
-    n: Review,
-    t: usize,
-) {
-    let pre = n.pre;
-    let wait = n.wait;
-    let discards = n.discards;
-    let ended = n.ended;
-    let x = state::cell(plan, Plan::PARENT, t);
-    leaving::discarded(
-        rows,
-        parts,
-        texts,
-        plan,
-        waits,
-        state,
-        mark(pre, t),
-        mark(wait, t),
-        of_plan(discards, x),
-        of_plan(ended, x),
-        t,
-    );
+fn discarded(g: Tables, waits: WaitTable, n: Review, t: usize) {
+    let x = state::cell(g.plan, Plan::PARENT, t);
+    let discards = of_plan(n.discards, x);
+    let ends = of_plan(n.ended, x);
+    leaving::discarded(g, waits, mark(n.pre, t), mark(n.wait, t), discards, ends, t);
 }
 
 // What the next cycle does with the task, and why; or what it waits for.
-fn moves(
-    rows: &[u32],
-    parts: &[u32],
-    texts: &[u8],
-    plan: &[u32],
-    waits: WaitTable,
-    state: &[u32],
-    t: usize,
-) {
-    let n = ahead::next(parts, texts, plan, waits, state);
+fn moves(g: Tables, waits: WaitTable, t: usize) {
+    let n = ahead::next(g.parts, g.texts, g.plan, waits, g.state);
     match ahead::ahead(n, t) {
-        Move::Initialise => initialised(rows, texts, plan, n, t),
-        Move::Start => leaving::started(texts, plan, state, t),
-        Move::Discard => discarded(rows, parts, texts, plan, waits, state, n, t),
+        Move::Initialise => initialised(g, n, t),
+        Move::Start => leaving::started(g, t),
+        Move::Discard => discarded(g, waits, n, t),
         Move::Complete => write::text(b"  The next cycle completes it.\n"),
-        Move::Nothing => stays(rows, parts, texts, plan, waits, state, n, t),
+        Move::Nothing => stays(g, waits, n, t),
     }
 }
 
 // Why the task `t` is where it is.
-pub fn tell(
-    rows: &[u32],
-    parts: &[u32],
-    texts: &[u8],
-    plan: &[u32],
-    waits: WaitTable,
-    state: &[u32],
-    t: usize,
-) {
-    if parts::number(plan, Plan::TASKS) <= t {
+pub fn tell(g: Tables, waits: WaitTable, t: usize) {
+    if parts::number(g.plan, Plan::TASKS) <= t {
         return;
     }
-    head(rows, texts, plan, state, t);
-    if parts::number(state, FLAG) == 1 {
+    head(g, t);
+    if parts::number(g.state, FLAG) == 1 {
         write::text(b"  The Exception flag is set: no task moves any more.\n");
-        return;
+    } else {
+        moves(g, waits, t);
     }
-    moves(rows, parts, texts, plan, waits, state, t);
 }

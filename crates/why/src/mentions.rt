@@ -31,11 +31,9 @@ pub fn items(parts: &[u32], texts: &[u8], plan: &[u32], e: usize) -> [bool; Data
     ensures { Mentioned (Named parts.now texts.now (part_of plan.now 1256 (get_or plan.now 1 0))) 64 (e - get_or parts.now ((e - 1) * 4 + 2) 0) e result }
 {
     let mut m = [false; DataItems::LIMIT + 1];
-    let mut p = back(parts, e);
-    while p < e {
+    for p in back(parts, e)..e {
         let d = item_at(parts, texts, plan, p);
         m[d] = true;
-        p += 1;
     }
     m
 }
@@ -44,34 +42,24 @@ pub fn items(parts: &[u32], texts: &[u8], plan: &[u32], e: usize) -> [bool; Data
 fn is_state(c: usize) -> bool
     ensures { result ≡ state_code c }
 {
-    match c {
-        Code::IS_DORMANT => true,
-        Code::IS_IN_PROGRESS => true,
-        Code::IS_DISCARDED => true,
-        Code::IS_COMPLETED => true,
-        _ => false,
-    }
+    matches!(
+        c,
+        Code::IS_DORMANT | Code::IS_IN_PROGRESS | Code::IS_DISCARDED | Code::IS_COMPLETED
+    )
 }
 
 // Whether a part with this code is a text as it stands.
 fn is_text(c: usize) -> bool
     ensures { result ≡ text_code c }
 {
-    match c {
-        Code::ATOM => true,
-        Code::STRING => true,
-        _ => false,
-    }
+    matches!(c, Code::ATOM | Code::STRING)
 }
 
 // One less, and never below 0: how many tasks there are behind the root.
 fn others(n: usize) -> usize
     ensures { result ≡ n - 1 }
 {
-    if n == 0 {
-        return 0;
-    }
-    n - 1
+    n.saturating_sub(1)
 }
 
 // The task with the name of the part `p`, or the limit. The root has none.
@@ -114,11 +102,9 @@ pub fn tasks(parts: &[u32], texts: &[u8], plan: &[u32], e: usize) -> [bool; Task
     ensures { Mentioned (Asks parts.now texts.now (part_of plan.now 1256 (get_or plan.now 1 0)) (part_of plan.now 1193 (get_or plan.now 0 0 - 1))) 32 (e - get_or parts.now ((e - 1) * 4 + 2) 0) e result }
 {
     let mut m = [false; Tasks::LIMIT + 1];
-    let mut p = back(parts, e);
-    while p < e {
+    for p in back(parts, e)..e {
         let t = task_at(parts, texts, plan, p);
         m[t] = true;
-        p += 1;
     }
     m
 }

@@ -7,10 +7,10 @@ ghost use Rattle.waits.specs.Twins.{parent_at};
 use crate::ahead::{Move, Review};
 use crate::{ahead, condition};
 use limits::{Marks, Sources, Tasks};
-use pieces::STDOUT_FILENO;
 use sentences::write;
 use state::{Class, Plan, Property, Requested, State, Tag};
-use waits::{both, either, mark};
+use tree::Tables;
+use waits::mark;
 
 const STATES: usize = Property::STATE as usize + Tasks::LIMIT;
 
@@ -20,35 +20,24 @@ fn is_open(plan: &[u32], state: &[u32], k: usize) -> bool
 {
     let free = state::cell(plan, Plan::MANDATORY, k) != 1;
     let d = state::cell(plan, Plan::SOURCE_ITEM, k);
-    let told = both(
-        state::cell(state, Requested::TAGS, d) == Tag::TRUTH,
-        state::cell(state, Requested::NUMBERS, d) == 0,
-    );
-    let done = either(free, told);
-    !done
-}
-
-// The source `k`, if it is one of the task and is open.
-fn source(texts: &[u8], plan: &[u32], state: &[u32], is_its: bool, k: usize) {
-    if !both(is_its, is_open(plan, state, k)) {
-        return;
-    }
-    let d = state::cell(plan, Plan::SOURCE_ITEM, k);
-    write::text(b"  It waits for a value of ");
-    worded::item(texts, plan, d);
-    write::text(b" (");
-    worded::declared(state::cell(plan, Plan::ITEM_TYPE, d));
-    write::text(b"), which is mandatory.\n");
+    let told = state::cell(state, Requested::TAGS, d) == Tag::TRUTH
+        && state::cell(state, Requested::NUMBERS, d) == 0;
+    !(free || told)
 }
 
 // 2: the mandatory sources whose data items are still asked for.
-fn sources(texts: &[u8], plan: &[u32], state: &[u32], t: usize) {
-    let first = state::cell(plan, Plan::FIRST_SOURCE, t);
-    let count = state::cell(plan, Plan::SOURCES, t);
-    let mut k = 0usize;
-    while k < Sources::LIMIT {
-        source(texts, plan, state, worded::is_among(first, count, k), k);
-        k += 1;
+fn sources(g: Tables, t: usize) {
+    let first = state::cell(g.plan, Plan::FIRST_SOURCE, t);
+    let count = state::cell(g.plan, Plan::SOURCES, t);
+    for k in 0..Sources::LIMIT {
+        if worded::is_among(first, count, k) && is_open(g.plan, g.state, k) {
+            let d = state::cell(g.plan, Plan::SOURCE_ITEM, k);
+            write::text(b"  It waits for a value of ");
+            g.name_item(d);
+            write::text(b" (");
+            worded::declared(state::cell(g.plan, Plan::ITEM_TYPE, d));
+            write::text(b"), which is mandatory.\n");
+        }
     }
 }
 
@@ -60,35 +49,22 @@ fn settled(state: &[u32], starts: Marks, discards: Marks, initialises: Marks, c:
     let dropped = state::row_is(state, Property::STATE, c, Tag::STATE, State::DISCARDED);
     let runs = state::row_is(state, Property::STATE, c, Tag::STATE, State::IN_PROGRESS);
     let timed = waits::timed(state, c);
-    let still = both(either(done, dropped), both(!runs, !timed));
-    let a = mark(starts, c);
-    let b = mark(discards, c);
-    let i = mark(initialises, c);
-    both(still, both(!a, both(!b, !i)))
-}
-
-// The place of what the next cycle does among the texts below.
-fn place_of(m: Move) -> usize {
-    match m {
-        Move::Initialise => 0,
-        Move::Start => 1,
-        Move::Discard => 2,
-        Move::Complete => 3,
-        Move::Nothing => 4,
-    }
+    let still = (done || dropped) && !runs && !timed;
+    still && !mark(starts, c) && !mark(discards, c) && !mark(initialises, c)
 }
 
 // What a component does in the next cycle, or is.
-fn doing(state: &[u32], m: Move, c: usize) {
-    let k = place_of(m);
-    pieces::write(
-        STDOUT_FILENO,
-        b", which the next cycle initialises.\n|, which the next cycle starts.\n|, which the next cycle discards.\n|, which the next cycle completes.\n|, which is ",
-        k,
-    );
-    if k == 4 {
-        worded::state(state::cell(state, STATES, c));
-        write::text(b".\n");
+fn doing(g: Tables, m: Move, c: usize) {
+    match m {
+        Move::Initialise => write::text(b", which the next cycle initialises.\n"),
+        Move::Start => write::text(b", which the next cycle starts.\n"),
+        Move::Discard => write::text(b", which the next cycle discards.\n"),
+        Move::Complete => write::text(b", which the next cycle completes.\n"),
+        Move::Nothing => {
+            write::text(b", which is ");
+            worded::state(state::cell(g.state, STATES, c));
+            write::text(b".\n");
+        }
     }
 }
 
@@ -97,44 +73,25 @@ fn is_component(plan: &[u32], t: usize, c: usize) -> bool
     ensures { result ≡ eqb (parent_at plan.now c) (t + 1) }
 {
     let x = state::cell(plan, Plan::PARENT, c);
-    if x == 0 {
-        return false;
-    }
-    x - 1 == t
+    0 < x && x - 1 == t
 }
 
 // 5, of the task `c`, if it is a component of the plan that is not settled.
-fn component(
-    rows: &[u32],
-    texts: &[u8],
-    plan: &[u32],
-    state: &[u32],
-    n: Review,
-    t: usize,
-    c: usize,
-) {
-    if !is_component(plan, t, c) {
-        return;
+fn component(g: Tables, n: Review, t: usize, c: usize) {
+    if is_component(g.plan, t, c) && !settled(g.state, n.starts, n.discards, n.initialises, c) {
+        write::text(b"  It waits for its component ");
+        g.name_task(c);
+        doing(g, ahead::ahead(n, c), c);
     }
-    let starts = n.starts;
-    let discards = n.discards;
-    let initialises = n.initialises;
-    if settled(state, starts, discards, initialises, c) {
-        return;
-    }
-    write::text(b"  It waits for its component ");
-    worded::task(rows, texts, plan, c);
-    doing(state, ahead::ahead(n, c), c);
 }
 
 // 8.6.8, 2, of the task `c`, if it is a component that ends the plan.
-fn terminal(rows: &[u32], texts: &[u8], plan: &[u32], state: &[u32], t: usize, c: usize) {
-    if !both(is_component(plan, t, c), is_last(plan, state, c)) {
-        return;
+fn terminal(g: Tables, t: usize, c: usize) {
+    if is_component(g.plan, t, c) && is_last(g.plan, g.state, c) {
+        write::text(b"  It terminates: its terminal component ");
+        g.name_task(c);
+        write::text(b" is completed.\n");
     }
-    write::text(b"  It terminates: its terminal component ");
-    worded::task(rows, texts, plan, c);
-    write::text(b" is completed.\n");
 }
 
 // Whether a task is terminal and completed.
@@ -142,72 +99,36 @@ fn is_last(plan: &[u32], state: &[u32], c: usize) -> bool
     ensures { result ≡ ends_f state.now plan.now c }
 {
     let done = state::row_is(state, Property::STATE, c, Tag::STATE, State::COMPLETED);
-    both(done, state::cell(plan, Plan::TERMINAL, c) == 1)
+    done && state::cell(plan, Plan::TERMINAL, c) == 1
 }
 
-fn components(rows: &[u32], texts: &[u8], plan: &[u32], state: &[u32], n: Review, t: usize) {
-    let mut c = 0usize;
-    while c < Tasks::LIMIT {
-        component(rows, texts, plan, state, n, t, c);
-        terminal(rows, texts, plan, state, t, c);
-        c += 1;
+fn components(g: Tables, n: Review, t: usize) {
+    for c in 0..Tasks::LIMIT {
+        component(g, n, t, c);
+        terminal(g, t, c);
     }
 }
 
 // 8.6.8, 1: the terminate condition, if there is one; `ends` says whether it is true.
-fn terminate(
-    rows: &[u32],
-    parts: &[u32],
-    texts: &[u8],
-    plan: &[u32],
-    state: &[u32],
-    ends: bool,
-    t: usize,
-) {
-    let e = state::cell(plan, Plan::TERMINATE, t);
+fn terminate(g: Tables, ends: bool, t: usize) {
+    let e = state::cell(g.plan, Plan::TERMINATE, t);
     if e == 0 {
         return;
     }
     if ends {
-        condition::tell(
-            rows,
-            parts,
-            texts,
-            plan,
-            state,
-            b"  Its terminate condition is true",
-            e,
-        );
-        return;
+        condition::tell(g, b"  Its terminate condition is true", e);
+    } else {
+        condition::tell(g, b"  Its terminate condition is not true", e);
     }
-    condition::tell(
-        rows,
-        parts,
-        texts,
-        plan,
-        state,
-        b"  Its terminate condition is not true",
-        e,
-    );
 }
 
-pub fn tell(
-    rows: &[u32],
-    parts: &[u32],
-    texts: &[u8],
-    plan: &[u32],
-    state: &[u32],
-    n: Review,
-    t: usize,
-) {
-    sources(texts, plan, state, t);
-    if tree::is_waiting(plan, state, t) {
+pub fn tell(g: Tables, n: Review, t: usize) {
+    sources(g, t);
+    if tree::is_waiting(g.plan, g.state, t) {
         write::text(b"  It waits to be confirmed.\n");
     }
-    if state::cell(plan, Plan::CLASS, t) != Class::PLAN {
-        return;
+    if state::cell(g.plan, Plan::CLASS, t) == Class::PLAN {
+        components(g, n, t);
+        terminate(g, mark(n.ends, t), t);
     }
-    components(rows, texts, plan, state, n, t);
-    let ends = n.ends;
-    terminate(rows, parts, texts, plan, state, mark(ends, t), t);
 }

@@ -8,11 +8,12 @@ const ROOT: usize = 0;
 
 // The name of the task `t`.
 pub fn task(rows: &[u32], texts: &[u8], plan: &[u32], t: usize) {
-    if t == ROOT {
-        slips::name(texts, handle(rows, ROOT));
-        return;
-    }
-    slips::name(texts, state::cell(plan, Plan::TASK_NAME, t));
+    let name = if t == ROOT {
+        handle(rows, ROOT)
+    } else {
+        state::cell(plan, Plan::TASK_NAME, t)
+    };
+    slips::name(texts, name);
 }
 
 // The name of the data item `d`.

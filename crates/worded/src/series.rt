@@ -15,8 +15,5 @@ pub fn comma(any: bool) {
 pub fn is_among(first: usize, count: usize, n: usize) -> bool
     ensures { result ≡ among_f first count n }
 {
-    if n < first {
-        return false;
-    }
-    n - first < count
+    first <= n && n - first < count
 }

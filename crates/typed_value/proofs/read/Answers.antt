@@ -4,7 +4,6 @@ use lib.ListN.{length, length-take}
 use borrow.Author.Tests.{lt-ltb, le-ltb}
 use Rattle.typed_value.specs.Values.{typed}
 use Rattle.typed_value.specs.Readings.{read_wrong}
-use borrow.Author.Rules.{rules}
 use Rattle.typed_value.proofs.read.Goals as goal
 
 pub returns-then-s-to : goal.returns-then-s-to

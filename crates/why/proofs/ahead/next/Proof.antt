@@ -1,5 +1,5 @@
 -- `next`: each pass by its own promise.
-use mathlib.Core.Path.{◌≡◌, refl, sym, ap, subst, ◌∙◌}
+use mathlib.Core.Path.{subst}
 use Prim.Native.Nat.{ℕ}
 use Rattle.passes.specs.Passes.{Starts}
 use borrow.Author.Rules.{rules}

@@ -1,6 +1,5 @@
 -- `item_at`: no atom, one that names none, or one that names this.
-use mathlib.Core.Path.{◌≡◌, refl, sym, ap, subst, ◌∙◌}
-use Prim.Native.Nat.{ℕ}
+use mathlib.Core.Path.{ap, ◌∙◌}
 use lib.ListN.{get_or}
 use Rattle.truths.specs.Part.{part_of}
 use Rattle.why.specs.Mentions.{item_not, item_far, item_none, item_here}

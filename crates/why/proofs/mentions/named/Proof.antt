@@ -1,5 +1,5 @@
 -- `named`: too far, not there, or this.
-use mathlib.Core.Path.{◌≡◌, refl, sym, ap, subst, ◌∙◌}
+use mathlib.Core.Path.{ap, ◌∙◌}
 use Prim.Native.Nat.{ℕ, ◌+◌, ◌*◌, ◌-◌}
 use lib.ListN.{get_or}
 use Rattle.truths.specs.Part.{part_of}
