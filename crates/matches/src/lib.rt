@@ -117,15 +117,18 @@ fn walk(text: &[u8], at: usize, shut: bool) -> Best
     let accepts = table::accepts();
     let mut states = begin(shut);
     let mut best = Best { len: 0, rule: 0 };
-    for (i, b) in text[at..].iter().enumerate() {
+    'walk: for (i, b) in text[at..].iter().enumerate() {
         let k = kind(*b);
-        for (r, q) in states.iter_mut().enumerate() {
+        let mut alive = 0usize;
+        'rules: for (r, q) in states.iter_mut().enumerate() {
             let next = table::next(&delta, *q, k);
             *q = next;
             best = better(&accepts, best, next, r, i + 1);
-        }
-        if states == [State::DEAD; Rule::COUNT] {
-            break;
+            alive += next;
+            // behind the last rule: if all are dead, the longest match is settled
+            if r == Rule::COUNT - 1 && alive == State::DEAD {
+                break 'walk;
+            }
         }
     }
     best

@@ -4,15 +4,17 @@ use Rattle.matches.specs.Walk.{Sofar, begin_of}
 use Rattle.matches.proofs.Steps.{After}
 use Rattle.matches.proofs.walk.Given as goal
 
-abbrev pub invariant-loop-r : goal.invariant-loop-r
-invariant-loop-r l = record {
+abbrev pub invariant-rules : goal.invariant-rules
+invariant-rules l = record {
   done : (j : ℕ) → j < l.r → get_or l.q-items j 0 ≡ After (begin_of l.shut) l.text l.at j (l.i + 1);
   left : (j : ℕ) → l.r ≤ j → j < 7 → get_or l.q-items j 0 ≡ After (begin_of l.shut) l.text l.at j l.i;
   best : Sofar l.text l.at ((l.i + 1) * 7 + l.r) l.best;
+  few : l.alive ≤ 35 * l.r;
+  dead : l.alive ≡ 0 → (j : ℕ) → j < l.r → get_or l.q-items j 0 ≡ 0;
 }
 
-abbrev pub invariant-loop-i : goal.invariant-loop-i
-invariant-loop-i l = record {
+abbrev pub invariant-walk : goal.invariant-walk
+invariant-walk l = record {
   states : (j : ℕ) → j < 7 → get_or l.states j 0 ≡ After (begin_of l.shut) l.text l.at j l.i;
   best : Sofar l.text l.at ((l.i + 1) * 7) l.best;
 }
