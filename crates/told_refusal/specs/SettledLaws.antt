@@ -1,5 +1,5 @@
 -- One part more; and the columns that are gathered of the rows are those of the guideline's data items.
-use Rattle.std.specs.Prelude.{ℕ, ◌+◌, ◌≤◌, ◌<◌, ◌≡◌, refl, ◌⊎◌, List, Option, Some, None, length, get_or, take, set}
+use Rattle.std.specs.Prelude.{ℕ, ◌+◌, ◌≤◌, ◌<◌, ◌≡◌, refl, ◌⊎◌, List, Option, Some, None, IfSome, length, get_or, take, set}
 use Rattle.std.proofs.Common.{arith, sym, subst, ◌∙◌, inl, inr, ⊎_elim, length-set, get_or-set_same, get_or-set_other}
 use Rattle.std.specs.Option.{unwrap_or}
 use Rattle.std.proofs.Math.Decide.{dec_lt}
@@ -70,6 +70,11 @@ module _ {t : Table} {names types : List ℕ} {from : ℕ} {l m : List ℕ} {p :
 pub untyped_or : (t : Table) (names types : List ℕ) (from to : ℕ) (r : Option ℕ) → UntypedOf t names types from to r → Untyped t names types from to (unwrap_or r to)
 untyped_or t names types from to None w = w
 untyped_or t names types from to (Some p) w = w.1
+
+-- .. and it is one of them
+pub untyped_within : (t : Table) (names types : List ℕ) (from to : ℕ) (r : Option ℕ) → UntypedOf t names types from to r → IfSome r (λ (p : ℕ). p < to)
+untyped_within t names types from to None w = tt
+untyped_within t names types from to (Some p) w = w.0
 
 -- ---- the columns
 

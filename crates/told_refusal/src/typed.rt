@@ -1,5 +1,6 @@
 // Refusal 5: what type an expression has and what was wanted; or the smallest part that has no type, and what it is given.
 ghost use Rattle.std.specs.Option.{unwrap_or};
+ghost use Rattle.std.specs.Prelude.{◌<◌, IfSome};
 ghost use Rattle.parts.specs.Part.{table};
 ghost use Rattle.row_tests.specs.Table.{cell_of};
 ghost use Rattle.told_refusal.specs.Settled.{Spelt, Settled, FirstUntyped};
@@ -170,7 +171,8 @@ fn settle(
     to: usize,
     letters: &mut [u8],
 ) -> Option<usize>
-    ensures { Settled rows.now n (table cells.now bytes.now) from to letters.old letters.new (unwrap_or result to) }
+    ensures settled { Settled rows.now n (table cells.now bytes.now) from to letters.old letters.new (unwrap_or result to) }
+    ensures within { IfSome result (λ p. p < to) }
 {
     if ROWS < n {
         return None;
@@ -198,7 +200,8 @@ fn tell(sheet: Sheet, cells: &[u32], letters: &[u8], j: usize, e: usize, p: Opti
 
 // The sentence on the expression of the row `j`; answers its first part without a type.
 pub fn why(sheet: Sheet, cells: &[u32], j: usize) -> Option<usize>
-    ensures { FirstUntyped sheet.entry.rows.now sheet.entry.n (table cells.now sheet.entry.bytes.now) (cell_of sheet.entry.rows.now j 4) (cell_of sheet.entry.rows.now j 6) (unwrap_or result (cell_of sheet.entry.rows.now j 6)) }
+    ensures first { FirstUntyped sheet.entry.rows.now sheet.entry.n (table cells.now sheet.entry.bytes.now) (cell_of sheet.entry.rows.now j 4) (cell_of sheet.entry.rows.now j 6) (unwrap_or result (cell_of sheet.entry.rows.now j 6)) }
+    ensures within { IfSome result (λ p. p < cell_of sheet.entry.rows.now j 6) }
 {
     let mut letters = [0u8; Expressions::PARTS];
     let e = end(sheet.rows, j);
