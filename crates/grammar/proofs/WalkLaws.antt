@@ -1,6 +1,6 @@
 -- The walk does as `run` does: at each token what is still to come has the run that is left of the whole.
 use Prim.Native.Nat.{ℕ, ◌<◌, ◌≤◌, ◌+◌}
-use mathlib.Core.Path.{◌≡◌, refl, sym, ap, subst, ◌∙◌}
+use mathlib.Core.Path.{◌≡◌, refl, sym, ap, ◌∙◌}
 use mathlib.Core.Bool.{Bool, true, false, cond}
 use mathlib.Core.List.{List, [], ◌∷◌}
 use native.Mathlib.Omega.{arith}
@@ -10,8 +10,7 @@ use lib.Seq.{drop-cons}
 use Rattle.paper_grammar.proofs.Laws.Ll.{Sym, Next, stop, go, accept, refuse, after, adv, blank, run}
 use Rattle.paper_grammar.proofs.Laws.Form.{G}
 use Rattle.grammar.specs.declared.Answer.TheVariants.{Accepted, Refused}
-use Rattle.grammar.specs.declared.Turn.{Turn}
-use Rattle.grammar.specs.Machine.{Stepped, Ends}
+use Rattle.grammar.specs.Machine.{Ends}
 
 -- at the token i, with q still to come: what is left
 pub record At (S : List (Sym ℕ)) (w : List ℕ) (q : List (Sym ℕ)) (i : ℕ) : Type 0 where
@@ -20,9 +19,6 @@ pub record At (S : List (Sym ℕ)) (w : List ℕ) (q : List (Sym ℕ)) (i : ℕ)
 
 pub begins : (S : List (Sym ℕ)) (w : List ℕ) → At S w S 0
 begins S w = record { within = omega arith; runs = refl }
-
-pub turned : (st : List ℕ) (k top : ℕ) (out : List ℕ) (r r' : Turn) → r ≡ r' → Stepped st k top out r → Stepped st k top out r'
-turned st k top out r r' e = subst (λ (x : Turn). Stepped st k top out x) e
 
 module _ (S : List (Sym ℕ)) (w : List ℕ) (q : List (Sym ℕ)) (i : ℕ) (a : At S w q i) where
   module _ (h : i < length w) where

@@ -1,9 +1,7 @@
 -- What the parts of the machine do, in the terms of Ll. Definitions only.
-use Rattle.std.specs.Prelude.{ℕ, ◌+◌, ◌≤◌, ◌≡◌, Bool, false, cond, ◌&&◌, List, [], ◌∷◌, map, length, drop, eqb}
+use Rattle.std.specs.Prelude.{Option, Some, None, ℕ, ◌+◌, ◌≤◌, ◌≡◌, Bool, false, cond, ◌&&◌, List, [], ◌∷◌, map, length, drop, eqb}
 use Rattle.paper_grammar.proofs.Laws.Ll.{Sym, T, N, stop, go, accept, refuse, adv, run}
 use Rattle.paper_grammar.proofs.Laws.Form.{G}
-use Rattle.grammar.specs.declared.Turn.{Turn}
-use Rattle.grammar.specs.declared.Turn.TheVariants.{On, Stuck}
 use Rattle.grammar.specs.declared.Answer.{Answer}
 use Rattle.grammar.specs.declared.Answer.TheVariants.{Accepted, Refused, Unread}
 use Rattle.grammar.specs.Tables.{sym_of, choice_of}
@@ -18,9 +16,9 @@ past k [] = []
 past k (s ∷ st) = cond (passed k s) (past k st) (s ∷ st)
 
 -- one token, with the bytes `st` on the stack from top on; then the stack is `out`
-abbrev pub Stepped : List ℕ → ℕ → ℕ → List ℕ → Turn → Type 0
-Stepped st k top out Stuck = adv G (map sym_of st) k ≡ stop
-Stepped st k top out (On t) = ((length out ≡ 32768) × (top ≤ t + 7) × (t ≤ 32768)) × (adv G (map sym_of st) k ≡ go (map sym_of (drop t out)))
+abbrev pub Stepped : List ℕ → ℕ → ℕ → List ℕ → Option ℕ → Type 0
+Stepped st k top out None = adv G (map sym_of st) k ≡ stop
+Stepped st k top out (Some t) = ((length out ≡ 32768) × (top ≤ t + 7) × (t ≤ 32768)) × (adv G (map sym_of st) k ≡ go (map sym_of (drop t out)))
 
 -- all tokens w, with the symbols S still to come
 abbrev pub Ends : List (Sym ℕ) → List ℕ → Answer → Type 0

@@ -47,13 +47,6 @@ pub enum Answer {
     Unread,
 }
 
-// A token is taken: the stack's new top. Or it cannot stand there.
-#[derive(Drop)]
-enum Turn {
-    On(usize),
-    Stuck,
-}
-
 // The byte j of the alternative a.
 fn byte(t: &[u8; Layout::BYTES], a: usize, j: usize) -> u8
     requires a_bound { (a < 210) × (j < 10) }
@@ -151,28 +144,22 @@ fn push(t: &[u8; Layout::BYTES], stack: &mut [u8; STACK], top: usize, a: usize) 
     at
 }
 
-// Takes the token k off what is still to come.
-fn step(t: &[u8; Layout::BYTES], stack: &mut [u8; STACK], top: usize, k: u8) -> Turn
+// Takes the token k off what is still to come: the stack's new top, or none where k cannot stand there.
+fn step(t: &[u8; Layout::BYTES], stack: &mut [u8; STACK], top: usize, k: u8) -> Option<usize>
     requires stack_len { (length stack.old ≡ 32768) × (8 ≤ top) × (top ≤ 32768) }
     requires t_value { t.now ≡ table }
     ensures { Stepped (drop top stack.old) k top stack.new result }
 {
     let at = skip(t, stack, top, k);
     if at == STACK {
-        return Turn::Stuck;
+        return None;
     }
     let c = stack[at];
     if c < SYMBOL {
-        return if c == k {
-            Turn::On(at + 1)
-        } else {
-            Turn::Stuck
-        };
+        return if c == k { Some(at + 1) } else { None };
     }
-    match choice(t, usize::from(c) - FIRST, k) {
-        Some(a) => Turn::On(push(t, stack, at + 1, a)),
-        None => Turn::Stuck,
-    }
+    let a = choice(t, usize::from(c) - FIRST, k)?;
+    Some(push(t, stack, at + 1, a))
 }
 
 // Takes the tokens one after the other.
@@ -183,7 +170,7 @@ fn walk(t: &[u8; Layout::BYTES], kinds: &[u8], stack: &mut [u8; STACK]) -> Answe
 {
     let mut top = BOTTOM;
     for (i, k) in kinds.iter().enumerate() {
-        let Turn::On(next) = step(t, stack, top, *k) else {
+        let Some(next) = step(t, stack, top, *k) else {
             return Answer::Refused(i);
         };
         top = next;

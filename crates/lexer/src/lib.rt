@@ -97,13 +97,6 @@ pub struct Cursor {
     pub last: usize,
 }
 
-// The token at the place, with the place behind it; or that no rule matches there.
-#[derive(Drop)]
-pub enum Lexed {
-    Got(Token, Cursor),
-    Nothing,
-}
-
 impl Cursor {
     pub fn new(text: &[u8]) -> Cursor
         ensures { (result.at ≡ 0) × Marks text.now result.last }
@@ -114,24 +107,25 @@ impl Cursor {
         }
     }
 
-    pub fn token(self, text: &[u8]) -> Lexed
+    // The token at the place, with the place behind it; none where no rule matches there.
+    pub fn token(self, text: &[u8]) -> Option<(Token, Cursor)>
         requires { Marks text.now self.last }
         ensures { Answer text.now self result }
     {
         let Cursor { at, last } = self;
         if text.len() <= at {
-            return Lexed::Nothing;
+            return None;
         }
         let best = matches::longest(text, at, last);
         let len = best.len;
         if len == 0 {
-            return Lexed::Nothing;
+            return None;
         }
         let token = Token {
             kind: kind(text, at, best),
             start: at,
             len,
         };
-        Lexed::Got(token, Cursor { at: at + len, last })
+        Some((token, Cursor { at: at + len, last }))
     }
 }

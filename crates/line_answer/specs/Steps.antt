@@ -1,5 +1,5 @@
 -- What each step to the answer of a line has to find. Definitions only.
-use Rattle.std.specs.Prelude.{ℕ, ◌≤◌, ◌<◌, ◌≡◌, List, [], length}
+use Rattle.std.specs.Prelude.{Result, Ok, Err, ℕ, ◌≤◌, ◌<◌, ◌≡◌, List, [], length}
 use Rattle.paper_expressions.specs.Types.{Ty}
 use Rattle.paper_expressions.specs.Expressions.{Expr, HasType}
 use Rattle.paper_expressions.proofs.Laws.Parentheses.{bare}
@@ -15,10 +15,7 @@ use Rattle.parts.specs.Part.{table, Table, size, Ends, Within}
 use Rattle.resolution.specs.Letters.{letter}
 use Rattle.leaves.specs.Source.{source, Stand, Clean}
 use Rattle.written.specs.Limit.{answer_limit}
-use Rattle.line_answer.specs.declared.tests.Verdict.{Verdict}
-use Rattle.line_answer.specs.declared.tests.Verdict.TheVariants.{Fine, Refused}
-use Rattle.line_answer.specs.declared.tests.Limited.{Limited}
-use Rattle.line_answer.specs.declared.tests.Limited.TheVariants as Limited
+use Rattle.line_answer.specs.declared.tests.Refused.{Refused}
 use Rattle.line_answer.specs.Reply.{Answered}
 
 -- cells that are blank, and enough for every answer
@@ -65,15 +62,15 @@ pub record Held (line : List ℕ) (t : Table) (end : ℕ) : Type 0 where
   pub deep : Within depth_limit (bare expression)
   pub modest : Modest expression
 
-abbrev pub Parses : List ℕ → List ℕ → List ℕ → List ℕ → Verdict → Type 0
-Parses line kinds places lengths Fine = Parsed line kinds places lengths
-Parses line kinds places lengths (Refused n) = LineAnswers line (refused n)
+abbrev pub Parses : List ℕ → List ℕ → List ℕ → List ℕ → Result Unit Refused → Type 0
+Parses line kinds places lengths (Ok _) = Parsed line kinds places lengths
+Parses line kinds places lengths (Err r) = LineAnswers line (refused r.0)
 
-abbrev pub Fitted : List ℕ → List ℕ → Limited → Type 0
-Fitted line cells (Limited.Within end) = Held line (table cells line) end
-Fitted line cells (Limited.Refused n) = LineAnswers line (refused n)
+abbrev pub Fitted : List ℕ → List ℕ → Result ℕ Refused → Type 0
+Fitted line cells (Ok end) = Held line (table cells line) end
+Fitted line cells (Err r) = LineAnswers line (refused r.0)
 
-pub record Fits (line cells : List ℕ) (v : Limited) : Type 0 where
+pub record Fits (line cells : List ℕ) (v : Result ℕ Refused) : Type 0 where
   pub fitted : Fitted line cells v
 
 -- whatever line the parts before `end` are of: its answer is in the n cells

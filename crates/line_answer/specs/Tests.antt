@@ -1,5 +1,5 @@
 -- What the tests find is what the next step asks for, or the refusal: the grammar, what is left out, the limits.
-use Rattle.std.specs.Prelude.{ℕ, ◌≤◌, ◌<◌, ◌≡◌, refl, List, [], length}
+use Rattle.std.specs.Prelude.{Result, Ok, Err, ℕ, ◌≤◌, ◌<◌, ◌≡◌, refl, List, [], length}
 use Rattle.std.proofs.Common.{arith, subst}
 use Rattle.paper_expressions.specs.Limits.{list_limit}
 use Rattle.paper_expressions.specs.View as View
@@ -22,11 +22,8 @@ use Rattle.token_tests.specs.declared.Found.TheVariants.{At, Nowhere}
 use Rattle.token_tests.specs.Reply.{OverLimit, First}
 use Rattle.expression_steps.specs.declared.Built.{Built}
 use Rattle.expression_reader.specs.Reads.{Whole, Reads, parts_size, within_depth}
-use Rattle.line_answer.specs.declared.tests.Verdict.{Verdict}
-use Rattle.line_answer.specs.declared.tests.Verdict.TheVariants.{Fine, Refused}
 use Rattle.parts.specs.Part.{table}
-use Rattle.line_answer.specs.declared.tests.Limited.{Limited}
-use Rattle.line_answer.specs.declared.tests.Limited.TheVariants as Limited
+use Rattle.line_answer.specs.declared.tests.Refused.{Refused}
 use Rattle.line_answer.specs.Steps.{Lexed, Parsed, Fitting, Held, Parses, Fitted, Fits}
 use Rattle.line_answer.specs.Stages.{few_tokens, few_open, no_sentence, sentence, uses, nothing_left_out, over_limit, deep, long_lists, too_many_parts, within_limits}
 use Rattle.columns.specs.Columns.{as_many}
@@ -53,6 +50,12 @@ module _ {line kinds places lengths : List ℕ} where
 
     pub is_read : r ≡ Grammar.TheVariants.Accepted → SentenceOf ⟨expression⟩ kinds
     is_read e = (subst (Read.Verdict Expression kinds) e reply).1
+
+  -- .. so all but an acceptance is a refusal
+  pub not_accepted : Lexed line kinds places lengths → (r : Grammar.Answer) → Read.Verdict Expression kinds r → ¬ (r ≡ Grammar.TheVariants.Accepted) → LineAnswers line (refused 3)
+  not_accepted l (Grammar.TheVariants.Accepted) reply n = absurd (n refl)
+  not_accepted l (Grammar.TheVariants.Refused i) reply n = not_read l reply refl
+  not_accepted l (Grammar.TheVariants.Unread) reply n = not_unread l reply refl
 
   -- ---- what is left out
 
@@ -121,16 +124,16 @@ module _ {line kinds places lengths : List ℕ} where
 
 -- ---- what a verdict says
 
-module _ (line kinds places lengths : List ℕ) {v : Verdict} where
-  pub no_parse : {n : ℕ} → Parses line kinds places lengths v → v ≡ Refused n → LineAnswers line (refused n)
+module _ (line kinds places lengths : List ℕ) {v : Result Unit Refused} where
+  pub no_parse : {r : Refused} → Parses line kinds places lengths v → v ≡ Err r → LineAnswers line (refused r.0)
   no_parse h e = subst (Parses line kinds places lengths) e h
 
-  pub a_parse : Parses line kinds places lengths v → v ≡ Fine → Parsed line kinds places lengths
+  pub a_parse : {u : Unit} → Parses line kinds places lengths v → v ≡ Ok u → Parsed line kinds places lengths
   a_parse h e = subst (Parses line kinds places lengths) e h
 
-module _ {line cells : List ℕ} {v : Limited} (h : Fits line cells v) where
-  pub no_fit : {n : ℕ} → v ≡ Limited.Refused n → LineAnswers line (refused n)
+module _ {line cells : List ℕ} {v : Result ℕ Refused} (h : Fits line cells v) where
+  pub no_fit : {r : Refused} → v ≡ Err r → LineAnswers line (refused r.0)
   no_fit e = subst (Fitted line cells) e h.fitted
 
-  pub a_fit : {end : ℕ} → v ≡ Limited.Within end → Held line (table cells line) end
+  pub a_fit : {end : ℕ} → v ≡ Ok end → Held line (table cells line) end
   a_fit e = subst (Fitted line cells) e h.fitted

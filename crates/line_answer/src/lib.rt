@@ -10,7 +10,7 @@ ghost use Rattle.line_answer.specs.Reply.{Reply, Answered};
 ghost use Rattle.line_answer.specs.Steps.{Blank, Lexed};
 
 use limits::{Expressions, TokenList};
-use tests::{Limited, Verdict};
+use tests::Refused;
 use tokens::Read;
 use written::Answer;
 
@@ -20,16 +20,13 @@ fn tested(line: &[u8], kinds: &[u8], places: &[usize], lengths: &[usize], out: &
     requires blank { Blank out.old }
     ensures { Answered line.now (length out.old) out.new result }
 {
-    match tests::parse(line, kinds, places, lengths) {
-        Verdict::Refused(n) => {
-            return written::refused(n, out, 0);
-        }
-        Verdict::Fine => {}
+    if let Err(Refused(n)) = tests::parse(line, kinds, places, lengths) {
+        return written::refused(n, out, 0);
     }
     let mut cells = [0u32; Expressions::CELLS];
     match tests::fit(line, kinds, places, lengths, &mut cells) {
-        Limited::Refused(n) => written::refused(n, out, 0),
-        Limited::Within(end) => valued::value(&cells, line, end, out),
+        Ok(end) => valued::value(&cells, line, end, out),
+        Err(Refused(n)) => written::refused(n, out, 0),
     }
 }
 

@@ -8,67 +8,42 @@ use limits::{Expression, Expressions, Refusal};
 use token_tests::Found;
 use values::List;
 
-// What the tests find: nothing, or the number of the refusal.
-#[derive(Drop)]
-pub enum Verdict {
-    Fine,
-    Refused(u8),
-}
-
-// Where the parts of the expression end, or the number of the refusal.
-#[derive(Drop)]
-pub enum Limited {
-    Within(usize),
-    Refused(u8),
-}
+// The number of a refusal.
+#[derive(Clone, Copy)]
+pub struct Refused(pub u8);
 
 // Refusals 3 and 10: the tokens are no expression, or use something left out.
-pub fn parse(line: &[u8], kinds: &[u8], places: &[usize], lengths: &[usize]) -> Verdict
+pub fn parse(line: &[u8], kinds: &[u8], places: &[usize], lengths: &[usize]) -> Result<(), Refused>
     requires { Lexed line.now kinds.now places.now lengths.now }
     ensures { Parses line.now kinds.now places.now lengths.now result }
 {
-    match grammar::read(kinds, Start::Expression) {
-        Answer::Accepted => {}
-        Answer::Refused(_) => {
-            return Verdict::Refused(Refusal::GRAMMAR);
-        }
-        Answer::Unread => {
-            return Verdict::Refused(Refusal::GRAMMAR);
-        }
-    }
+    let Answer::Accepted = grammar::read(kinds, Start::Expression) else {
+        return Err(Refused(Refusal::GRAMMAR));
+    };
     match token_tests::left_out(line, kinds, places, lengths) {
-        Found::At(_) => Verdict::Refused(Refusal::LEFT_OUT),
-        Found::Nowhere => Verdict::Fine,
+        Found::At(_) => Err(Refused(Refusal::LEFT_OUT)),
+        Found::Nowhere => Ok(()),
     }
 }
 
-// Refusal 6: a token, the depth, a list or the number of parts is past its limit. The parts of the expression are written, over the line's own bytes.
+// Where the parts of the expression end, which are written over the line's own bytes; or refusal 6: a token, the depth, a list or the number of parts is past its limit.
 pub fn fit(
     line: &[u8],
     kinds: &[u8],
     places: &[usize],
     lengths: &[usize],
     cells: &mut [u32],
-) -> Limited
+) -> Result<usize, Refused>
     requires parsed { Parsed line.now kinds.now places.now lengths.now }
     requires cells_len { length cells.old ≡ part_limit * 4 }
     ensures { Fits line.now cells.new result }
 {
-    match token_tests::past_limit(line, kinds, places, lengths) {
-        Found::At(_) => {
-            return Limited::Refused(Refusal::LIMIT);
-        }
-        Found::Nowhere => {}
+    if let Found::At(_) = token_tests::past_limit(line, kinds, places, lengths) {
+        return Err(Refused(Refusal::LIMIT));
     }
     let m = expression_reader::read(line, kinds, places, lengths, 0, false, cells, 0);
-    if Expression::DEPTH < m.depth {
-        return Limited::Refused(Refusal::LIMIT);
+    if Expression::DEPTH < m.depth || List::LIST_LIMIT < m.longest || Expressions::PARTS < m.used {
+        return Err(Refused(Refusal::LIMIT));
     }
-    if List::LIST_LIMIT < m.longest {
-        return Limited::Refused(Refusal::LIMIT);
-    }
-    if Expressions::PARTS < m.used {
-        return Limited::Refused(Refusal::LIMIT);
-    }
-    Limited::Within(m.used)
+    Ok(m.used)
 }

@@ -1,10 +1,10 @@
 -- From load's answer, the plan and the opened state to its reply; and that only one reply fits, with every cell.
-use Rattle.std.specs.Prelude.{ℕ, ◌≤◌, ◌<◌, ◌≡◌, refl, Bool, true, false, ◌||◌, List, map, length, get_or, ltb}
+use Rattle.std.specs.Prelude.{ℕ, ◌≤◌, ◌<◌, ◌≡◌, refl, Bool, true, false, ◌||◌, List, length, get_or, ltb}
 use Rattle.std.proofs.Common.{arith, sym, ap, subst, ◌∙◌, ltb-false, lt-ltb, le-ltb}
 use Rattle.std.proofs.lemmas.List.{length-map}
 use Rattle.paper_expressions.proofs.Laws.Tests.{or_r}
 use Rattle.paper_expressions.proofs.Laws.Search.{no_clash}
-use Rattle.paper_guideline.specs.Structure.{TopLevel, Task, tasks}
+use Rattle.paper_guideline.specs.Structure.{TopLevel, tasks}
 use Rattle.paper_guideline.specs.Refusals as Refusals
 use Rattle.paper_guideline.proofs.Laws.RefusalLaws.{one_answer}
 use Rattle.paper_guideline.proofs.Laws.StageTwin.{one_read}
@@ -20,7 +20,6 @@ use Rattle.stages.specs.Judged.{is_short}
 use Rattle.reading.specs.Laws.{same_refusal}
 use Rattle.stages.specs.Judged as Stages
 use Rattle.answering.specs.declared.Answer.{Answer}
-use Rattle.answering.specs.declared.Answer.TheVariants as Answer
 use Rattle.answering.specs.Reply as Answering
 use Rattle.answering.specs.Stages.{never_both, swapped}
 use Rattle.opening.specs.Opened.{Opened, Opens, one_opened}
@@ -32,8 +31,7 @@ use Rattle.plan_law.specs.Loaded.{unbroken, bounded_loaded, few_loaded, short_lo
 use Rattle.plan_law.specs.TaskColumns.{tasks_told}
 use Rattle.plan_law.specs.Law.{fit_loaded}
 use Rattle.load.specs.declared.Reply.{Reply}
-use Rattle.load.specs.declared.Reply.TheVariants as Reply
-use Rattle.load.specs.Loads.{Lent, few, short_f, Emptied, Empty, Loaded, Outcome, Prepared, Told, Turned, Replied}
+use Rattle.load.specs.Loads.{Lent, few, short_f, Emptied, Outcome, Prepared, Turned, Replied}
 
 -- ---- whether a table is short
 

@@ -38,13 +38,7 @@ pub enum Reply {
 fn is_short(plan: &[u32], bytes: &[u8], state: &[u32]) -> bool
     ensures { result ≡ few (length plan.now) (length bytes.now) (length state.now) }
 {
-    if plan.len() < Plan::LEAST {
-        return true;
-    }
-    if bytes.len() < Texts::LEAST {
-        return true;
-    }
-    state.len() < State::LEAST
+    plan.len() < Plan::LEAST || bytes.len() < Texts::LEAST || state.len() < State::LEAST
 }
 
 // Nothing is loaded: what load works out is blank.

@@ -1,5 +1,5 @@
 -- The entries of one row, one by one: each is written to a table that holds a plan.
-use Rattle.std.specs.Prelude.{ℕ, zero, suc, ◌+◌, ◌-◌, ◌≤◌, ◌<◌, ◌≡◌, refl, Bool, true, false, cond, List, []}
+use Rattle.std.specs.Prelude.{ℕ, suc, ◌-◌, ◌≤◌, ◌<◌, ◌≡◌, Bool, cond, List}
 use Rattle.std.proofs.Common.{sym, ap, subst, ◌∙◌, arith, eq-eqb, ne_eqb}
 use Rattle.paper_tokens.specs.Tokens
 use Tokens.{“plan”, “action”, “enquiry”, “data”, “precondition”, “wait-condition”, “terminate”, “trigger”, “component”, “terminal”, “source”, “mandatory”, “=”}
@@ -10,7 +10,7 @@ use Rattle.row_tests.specs.Table.{cell_of}
 use Rattle.name_tests.specs.Lists.{Lists}
 use Rattle.plan_cells.specs.declared.spot.Spot.{Spot}
 use Rattle.plan.specs.Writes
-use Writes.{Outline, outline, counted, is_source, is_assignment, tasks_before, items_before, sources_before, assignments_before, first_that, task_named, child, Column, first, room, Cells, Entry, enter, write, store, Sort, a_component, another, sort_of, entries_of, entries}
+use Writes.{Outline, outline, counted, is_source, is_assignment, tasks_before, first_that, task_named, child, Column, first, room, Cells, enter, write, store, Sort, a_component, another, sort_of, entries_of, entries}
 use Rattle.plan.specs.Filled.{Held}
 use Rattle.plan.specs.Puts.{Puts}
 use Rattle.plan_cells.specs.Finds.{counted_few, first_is}

@@ -8,7 +8,7 @@ ghost use Rattle.plan_entries.specs.Turns.{Turn, EndTurn, ComponentTurn, ItemTur
 
 use guideline_rows::{Kind, Row};
 use limits::{Assignments, DataItems, Sources, Tasks};
-use plan_cells::cells::{cell, less, more, put, short};
+use plan_cells::cells::{cell, more, put, short};
 use plan_cells::found::{find, row};
 use plan_cells::spot::Spot;
 use row_tests::cells::{handle, kind};
@@ -25,10 +25,7 @@ const ENQUIRY: u32 = Class::ENQUIRY as u32;
 fn name_of(rows: &[u32], k: usize, t: usize) -> u32
     ensures { result ≡ cond (eqb t 0) 0 (cell_of rows.now k 2) }
 {
-    if t == 0 {
-        return 0;
-    }
-    cell(rows, k, Row::NAME)
+    if t == 0 { 0 } else { cell(rows, k, Row::NAME) }
 }
 
 fn task(rows: &[u32], k: usize, at: Spot, class: u32, f: &mut [u32])
@@ -77,7 +74,7 @@ fn ends(rows: &[u32], k: usize, at: Spot, column: usize, f: &mut [u32])
         f,
         column,
         Tasks::LIMIT,
-        less(at.tasks, 1),
+        at.tasks.saturating_sub(1),
         cell(rows, k, Row::END),
     );
 }
@@ -85,7 +82,7 @@ fn ends(rows: &[u32], k: usize, at: Spot, column: usize, f: &mut [u32])
 fn trigger(rows: &[u32], k: usize, at: Spot, f: &mut [u32])
     ensures { Turn rows.now k at a_trigger f.old f.new }
 {
-    let t = less(at.tasks, 1);
+    let t = at.tasks.saturating_sub(1);
     put(f, Plan::TRIGGERED, Tasks::LIMIT, t, 1);
     put(f, Plan::TRIGGER, Tasks::LIMIT, t, cell(rows, k, Row::NAME));
 }
@@ -109,7 +106,7 @@ fn mandatory(rows: &[u32], k: usize, at: Spot, f: &mut [u32])
         f,
         Plan::MANDATORY,
         Sources::LIMIT,
-        less(at.sources, 1),
+        at.sources.saturating_sub(1),
         cell(rows, k, Row::FLAG),
     );
 }
@@ -119,9 +116,10 @@ fn confirms(class: usize) -> u32
     ensures { result ≡ answer (eqb class 1) }
 {
     if class == Kind::ACTION {
-        return Answer::YES;
+        Answer::YES
+    } else {
+        Answer::NO
     }
-    Answer::NO
 }
 
 // The component names the task `c`.
@@ -146,9 +144,15 @@ fn source(rows: &[u32], bytes: &[u8], items: &[u32], d: usize, k: usize, at: Spo
     ensures { ItemTurn rows.now bytes.now items.now d k at a_source f.old f.new }
 {
     let i = find(rows, bytes, items, d, false, handle(rows, k));
-    let z = less(more(at.sources), at.sourced);
+    let z = more(at.sources).saturating_sub(at.sourced);
     put(f, Plan::SOURCE_ITEM, Sources::LIMIT, at.sources, short(i));
-    put(f, Plan::SOURCES, Tasks::LIMIT, less(at.tasks, 1), short(z));
+    put(
+        f,
+        Plan::SOURCES,
+        Tasks::LIMIT,
+        at.tasks.saturating_sub(1),
+        short(z),
+    );
 }
 
 fn assignment(
@@ -164,7 +168,7 @@ fn assignment(
 {
     let i = find(rows, bytes, items, d, true, handle(rows, k));
     let a = at.assignments;
-    let t = less(at.tasks, 1);
+    let t = at.tasks.saturating_sub(1);
     put(f, Plan::ASSIGNED_ITEM, Assignments::LIMIT, a, short(i));
     put(
         f,
@@ -179,7 +183,7 @@ fn assignment(
         Plan::ASSIGNMENTS,
         Tasks::LIMIT,
         t,
-        short(less(more(a), at.assigned)),
+        short(more(a).saturating_sub(at.assigned)),
     );
 }
 

@@ -1,8 +1,8 @@
 -- What the functions append is what a step writes: the bytes one behind the other, each line within its limit, and a step of `Run` for each way that `take` goes.
 use Rattle.std.specs.Prelude.{ℕ, zero, suc, ◌+◌, ◌-◌, ◌/◌, ◌%◌, ◌≤◌, ◌<◌, ◌≡◌, refl, Bool, true, false, cond, List, [], ◌∷◌, ◌++◌, ltb, length, take, replicate}
-use Rattle.std.proofs.Common.{arith, sym, ap, subst, ◌∙◌, append_assoc, append-nil, length-append, take_at, lt-ltb}
+use Rattle.std.proofs.Common.{arith, sym, ap, subst, ◌∙◌, append_assoc, length-append, take_at, lt-ltb}
 use Rattle.std.proofs.lemmas.List.{length-replicate}
-use Rattle.paper_guideline.specs.Line.{LineAnswer, LineAnswers, digits_in, digits_of, answer_written}
+use Rattle.paper_guideline.specs.Line.{LineAnswer, digits_in, digits_of, answer_written}
 use Rattle.tokens.specs.Reply.{filled}
 use Rattle.digits.specs.Appends.{Appends}
 use Rattle.digits.specs.AppendsLaws.{append_nothing, append_then, appends_as}
@@ -11,7 +11,7 @@ use Rattle.lines.specs.Run.{line_written, Run, line_ends, line_goes_on, last_lin
 use Rattle.lines.specs.RunLaws.{moves_on}
 use Rattle.lines.specs.declared.Taken.{Taken}
 use Rattle.written.specs.Limit.{answer_limit}
-use Rattle.line_answer.specs.Reply.{Answered, Reply}
+use Rattle.line_answer.specs.Reply.{Reply}
 use Rattle.sheet.specs.Steps.{line_limit, number_limit, following, Put, Room, LineWritten, Steps, Ends}
 use Rattle.sheet.specs.declared.output.State.{State}
 

@@ -16,10 +16,9 @@ const STDOUT_FILENO: i32 = 1;
 
 // Writes the first o bytes of the buffer.
 fn write(out: &[u8], o: usize) {
-    if out.len() < o {
-        return;
+    if let Some(bytes) = out.get(..o) {
+        io::write_all(STDOUT_FILENO, bytes);
     }
-    io::write_all(STDOUT_FILENO, &out[..o]);
 }
 
 // Writes what stands in the buffer, which then has room again.
@@ -28,12 +27,7 @@ fn empty(out: &[u8], s: State) -> State
     ensures { Cleared out.now s result }
 {
     write(out, s.o);
-    State {
-        at: s.at,
-        n: s.n,
-        number: s.number,
-        o: 0,
-    }
+    State { o: 0, ..s }
 }
 
 // The same, where there may be no room for one line more.
@@ -42,9 +36,10 @@ fn room(out: &[u8], s: State) -> State
     ensures { Cleared out.now s result }
 {
     if out.len() - Written::LINE < s.o {
-        return empty(out, s);
+        empty(out, s)
+    } else {
+        s
     }
-    s
 }
 
 // One step, with room for a line.
@@ -60,12 +55,7 @@ fn step(chunk: &[u8], kept: &mut [u8], out: &mut [u8], s: State) -> State
 fn answer(chunk: &[u8], kept: &mut [u8], out: &mut [u8], begun: State) -> State
     requires { line_limit ≤ length out.old }
 {
-    let mut s = State {
-        at: 0,
-        n: begun.n,
-        number: begun.number,
-        o: begun.o,
-    };
+    let mut s = State { at: 0, ..begun };
     while s.at < chunk.len() {
         s = step(chunk, kept, out, s);
     }
@@ -76,57 +66,32 @@ fn answer(chunk: &[u8], kept: &mut [u8], out: &mut [u8], begun: State) -> State
 fn read(stdin: &mut Stdin, chunk: &mut [u8]) -> usize
     ensures { result ≤ length chunk.new }
 {
-    match stdin.read(chunk) {
-        Ok(n) => n,
-        Err(_) => 0,
-    }
+    stdin.read(chunk).unwrap_or(0)
 }
 
-// A proved loop has to end, so the turns are counted down, from a number that no input uses up; none is left at the end of the input.
-#[derive(Drop)]
-pub struct Turn {
-    pub left: u64,
-    pub s: State,
-}
-
-// Reads a chunk, answers its lines and writes the answers.
-fn next(stdin: &mut Stdin, chunk: &mut [u8], kept: &mut [u8], out: &mut [u8], t: Turn) -> Turn
-    requires line_limit_in_bounds { line_limit ≤ length out.old }
-    requires left_nonzero { 0 < t.left }
-    ensures { result.left < t.left }
-{
-    let s = t.s;
-    let n = read(stdin, chunk);
-    if n == 0 {
-        return Turn { left: 0, s: s };
-    }
-    let answered = answer(&chunk[..n], kept, out, s);
-    Turn {
-        left: t.left - 1,
-        s: empty(out, answered),
-    }
-}
-
-// The whole input.
-fn all(stdin: &mut Stdin, chunk: &mut [u8], kept: &mut [u8], out: &mut [u8], begun: Turn) -> State
+// The whole input: reads a chunk, answers its lines and writes the answers, until there is none.
+// A proved loop has to end, so the turns are counted, up to a number that no input uses up.
+fn all(stdin: &mut Stdin, chunk: &mut [u8], kept: &mut [u8], out: &mut [u8], begun: State) -> State
     requires { line_limit ≤ length out.old }
 {
-    let mut t = begun;
-    while 0 < t.left {
-        t = next(stdin, chunk, kept, out, t);
+    let mut s = begun;
+    for _ in 0..u64::MAX {
+        let n = read(stdin, chunk);
+        if n == 0 {
+            break;
+        }
+        let answered = answer(&chunk[..n], kept, out, s);
+        s = empty(out, answered);
     }
-    t.s
+    s
 }
 
 // Writes the header.
-fn begin(out: &mut [u8]) -> Turn
+fn begin(out: &mut [u8]) -> State
     requires { line_limit ≤ length out.old }
 {
     let header = output::start(out);
-    Turn {
-        left: u64::MAX,
-        s: empty(out, header),
-    }
+    empty(out, header)
 }
 
 // Writes the last line, where the input does not end with a newline.

@@ -4,6 +4,7 @@ ghost use Rattle.digits.specs.Appends.{Appends};
 ghost use Rattle.line_answer.specs.Reply.{Reply};
 ghost use Rattle.sheet.specs.Steps.{line_limit, following, Room, Starts, LineWritten, Steps, Ends};
 
+use lines::Taken;
 use written::Answer;
 
 #[derive(Drop)]
@@ -21,7 +22,7 @@ impl Written {
 }
 
 // So many bytes of the line of this number are kept, the program has come to this place in the chunk, and so many bytes stand in the buffer.
-#[derive(Drop)]
+#[derive(Clone, Copy)]
 pub struct State {
     pub at: usize,
     pub n: usize,
@@ -39,28 +40,15 @@ pub fn start(out: &mut [u8]) -> State
         at: 0,
         n: 0,
         number: 1,
-        o: o,
+        o,
     }
-}
-
-// The answer to the first n bytes that are kept.
-fn answer(kept: &[u8], n: usize, text: &mut [u8]) -> usize
-    ensures { Reply (take n kept.now) (length text.old) text.new result }
-{
-    if kept.len() < n {
-        return line_answer::answer(kept, text);
-    }
-    line_answer::answer(&kept[..n], text)
 }
 
 // The first n bytes of a text.
-fn first(text: &[u8], n: usize, out: &mut [u8], o: usize) -> usize
-    ensures { Appends out.old out.new o result (take n text.now) }
+fn first(text: &[u8], n: usize) -> &[u8]
+    ensures { result.now ≡ take n text.now }
 {
-    if text.len() < n {
-        return digits::word(text, out, o);
-    }
-    digits::word(&text[..n], out, o)
+    text.get(..n).unwrap_or(text)
 }
 
 // One line: its number, a blank, its answer, a newline.
@@ -69,10 +57,10 @@ fn write_line(kept: &[u8], n: usize, number: usize, out: &mut [u8], o: usize) ->
     ensures { LineWritten (take n kept.now) number out.old out.new o result }
 {
     let mut text = [0u8; Answer::LIMIT];
-    let len = answer(kept, n, &mut text);
+    let len = line_answer::answer(first(kept, n), &mut text);
     let a = digits::number(number, out, o);
     let b = digits::byte(b' ', out, a);
-    let c = first(&text, len, out, b);
+    let c = digits::word(first(&text, len), out, b);
     digits::byte(b'\n', out, c)
 }
 
@@ -80,10 +68,7 @@ fn write_line(kept: &[u8], n: usize, number: usize, out: &mut [u8], o: usize) ->
 fn next(number: usize) -> usize
     ensures { result ≡ following number }
 {
-    if number < usize::MAX {
-        return number + 1;
-    }
-    number
+    number.saturating_add(1)
 }
 
 // One call of take, and the line written where it ended.
@@ -91,21 +76,17 @@ pub fn step(chunk: &[u8], kept: &mut [u8], out: &mut [u8], s: State) -> State
     requires { Room out.old s.o }
     ensures { Steps chunk.now kept.old kept.new out.old out.new s result }
 {
-    let t = lines::take(chunk, s.at, kept, s.n);
-    if t.ended {
-        let o = write_line(kept, t.n, s.number, out, s.o);
-        return State {
-            at: t.at,
+    let Taken { at, n, ended } = lines::take(chunk, s.at, kept, s.n);
+    if ended {
+        let o = write_line(kept, n, s.number, out, s.o);
+        State {
+            at,
             n: 0,
             number: next(s.number),
-            o: o,
-        };
-    }
-    State {
-        at: t.at,
-        n: t.n,
-        number: s.number,
-        o: s.o,
+            o,
+        }
+    } else {
+        State { at, n, ..s }
     }
 }
 
@@ -115,7 +96,8 @@ pub fn last(kept: &[u8], out: &mut [u8], s: State) -> usize
     ensures { Ends kept.now out.old out.new s result }
 {
     if s.n == 0 {
-        return s.o;
+        s.o
+    } else {
+        write_line(kept, s.n, s.number, out, s.o)
     }
-    write_line(kept, s.n, s.number, out, s.o)
 }

@@ -5,7 +5,7 @@ ghost use Rattle.std.specs.Prelude.{◌≡◌, ℕ, ◌+◌, ◌≤◌, ◌<◌,
 ghost use Rattle.tokens.specs.Reply.{Reads, RoomIs};
 ghost use Rattle.tokens.specs.Loop.{FirstHigh, Early, stored, counted, bracket_of, Filled, Late};
 
-use lexer::{Cursor, Lexed, Token};
+use lexer::{Cursor, Token};
 use limits::{Brackets, Guideline, Refusal, TokenList};
 use terminals::Terminal;
 
@@ -17,22 +17,25 @@ pub enum Read {
     Short,
 }
 
-// What a test finds.
-#[derive(Drop)]
-pub enum Verdict {
-    Fine,
-    Broken(u8, usize),
+// Number and place of a refusal.
+#[derive(Clone, Copy)]
+pub struct Broken {
+    pub number: u8,
+    pub place: usize,
 }
 
 // Refusal 1: the first byte over 127, or the length of a text that is too long.
-fn early(text: &[u8]) -> Verdict
+fn early(text: &[u8]) -> Result<(), Broken>
     ensures { Early text.now result }
 {
-    let h = high(text);
-    if h < text.len() || Guideline::LIMIT < text.len() {
-        Verdict::Broken(Refusal::TEXT, h)
+    let place = high(text);
+    if place < text.len() || Guideline::LIMIT < text.len() {
+        Err(Broken {
+            number: Refusal::TEXT,
+            place,
+        })
     } else {
-        Verdict::Fine
+        Ok(())
     }
 }
 
@@ -121,7 +124,7 @@ fn fill(text: &[u8], kinds: &mut [u8], places: &mut [usize], lengths: &mut [usiz
     let mut cursor = Cursor::new(text);
     let mut n = 0;
     let mut b = Open { count: 0, bad: end };
-    while let Lexed::Got(token, next) = cursor.token(text) {
+    while let Some((token, next)) = cursor.token(text) {
         n = put(kinds, places, lengths, n, token);
         b = bracket(b, token.kind, token.start, end);
         cursor = next;
@@ -134,18 +137,19 @@ fn fill(text: &[u8], kinds: &mut [u8], places: &mut [usize], lengths: &mut [usiz
 }
 
 // Refusals 2 and 6.
-fn late(stop: Stop, end: usize) -> Verdict
+fn late(stop: Stop, end: usize) -> Result<(), Broken>
     ensures { Late stop end result }
 {
-    if stop.at < end {
-        Verdict::Broken(Refusal::LEXICAL, stop.at)
+    let (number, place) = if stop.at < end {
+        (Refusal::LEXICAL, stop.at)
     } else if stop.bad < end {
-        Verdict::Broken(Refusal::LIMIT, stop.bad)
+        (Refusal::LIMIT, stop.bad)
     } else if TokenList::LIMIT < stop.n {
-        Verdict::Broken(Refusal::LIMIT, end)
+        (Refusal::LIMIT, end)
     } else {
-        Verdict::Fine
-    }
+        return Ok(());
+    };
+    Err(Broken { number, place })
 }
 
 // All three columns, set to zero.
@@ -179,18 +183,15 @@ pub fn into_blank(
     if !room(kinds.len(), places.len(), lengths.len()) {
         return Read::Short;
     }
-    match early(text) {
-        Verdict::Broken(number, place) => return Read::Refused(number, place),
-        Verdict::Fine => {}
+    if let Err(Broken { number, place }) = early(text) {
+        return Read::Refused(number, place);
     }
     let stop = fill(text, kinds, places, lengths);
-    match late(stop, text.len()) {
-        Verdict::Broken(number, place) => {
-            clear(kinds, places, lengths);
-            Read::Refused(number, place)
-        }
-        Verdict::Fine => Read::Tokens(stop.n),
+    if let Err(Broken { number, place }) = late(stop, text.len()) {
+        clear(kinds, places, lengths);
+        return Read::Refused(number, place);
     }
+    Read::Tokens(stop.n)
 }
 
 // The tokens of a text: kind, place and length of each, and zeros behind the last; or why it is refused, and zeros.

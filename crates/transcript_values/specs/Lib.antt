@@ -1,3 +1,4 @@
 pub mod Lists
 pub mod Literals
 pub mod Texts
+pub mod Joined

@@ -3,3 +3,4 @@ pub mod Lists
 pub mod Longest
 pub mod Named
 pub mod Texts
+pub mod Joined

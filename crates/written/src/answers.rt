@@ -7,7 +7,7 @@ ghost use Rattle.std.specs.Prelude.{◌≡◌};
 ghost use Rattle.written.specs.Limit.{answer_limit};
 ghost use Rattle.written.specs.Named.{OfType, name_of, answer_of};
 
-use crate::lists::value;
+use crate::plain::value;
 use digits::{byte, number, word};
 use values::Value;
 

@@ -3,7 +3,9 @@
 
 mod answers;
 mod lists;
+mod plain;
 mod scalars;
 
 pub use answers::{Answer, gives, refused};
-pub use lists::value;
+pub use lists::{Notation, value_in};
+pub use plain::value;

@@ -1,55 +1,75 @@
-// A list, in square brackets, with a comma and a blank between its elements.
-ghost use Rattle.std.specs.Prelude.{◌<◌, drop};
+// A list, by the words of a notation: what opens it, what stands between its elements, and what closes it.
+ghost use Rattle.std.specs.Prelude.{List, ℕ, ◌<◌, ◌++◌, drop};
 ghost use Rattle.paper_expressions.specs.Limits.{list_limit};
 ghost use Rattle.paper_expressions.specs.Values as paper;
-ghost use Rattle.paper_guideline.specs.Line.{more_written, value_written};
-ghost use Rattle.values.specs.Meaning.{meaning_l, meaning_v};
+ghost use Rattle.values.specs.Meaning.{meaning, meaning_l, meaning_v, at};
 ghost use Rattle.digits.specs.Appends.{Appends};
-ghost use Rattle.written.specs.Lists.{element_written};
+ghost use Rattle.written.specs.Joined.{more_joined, list_joined, value_joined};
 
-use crate::scalars::scalar;
-use digits::{byte, word};
-use values::{List, Value};
+use values::{List as Elements, Scalar, Value};
 
-// A comma, a blank and the i-th element.
-fn element(bytes: &[u8], l: List, i: usize, out: &mut [u8], o: usize) -> usize
-    requires { i < list_limit }
-    ensures { Appends out.old out.new o result (element_written bytes.now l i) }
-{
-    let p = word(b", ", out, o);
-    scalar(bytes, values::get(l, i), out, p)
+// A way to write values: each function appends what its ghost member says.
+pub trait Notation {
+    ghost opening: { List ℕ };
+
+    ghost between: { List ℕ };
+
+    ghost closing: { List ℕ };
+
+    ghost spelt: { paper.Scalar → List ℕ };
+
+    fn open(out: &mut [u8], o: usize) -> usize
+        ensures { Appends out.old out.new o result opening };
+
+    fn part(out: &mut [u8], o: usize) -> usize
+        ensures { Appends out.old out.new o result between };
+
+    fn close(out: &mut [u8], o: usize) -> usize
+        ensures { Appends out.old out.new o result closing };
+
+    fn scalar(bytes: &[u8], s: Scalar, out: &mut [u8], o: usize) -> usize
+        ensures { Appends out.old out.new o result (spelt (meaning bytes.now s)) };
 }
 
-// The elements behind the first, and the bracket that closes.
-fn more(bytes: &[u8], l: List, out: &mut [u8], o: usize) -> usize
-    ensures { Appends out.old out.new o result (more_written (drop 1 (meaning_l bytes.now l))) }
+// What stands between elements, and the i-th element.
+fn element<N: Notation>(bytes: &[u8], l: Elements, i: usize, out: &mut [u8], o: usize) -> usize
+    requires { i < list_limit }
+    ensures { Appends out.old out.new o result (N.between ++ N.spelt (meaning bytes.now (at l.items i))) }
+{
+    let p = N::part(out, o);
+    N::scalar(bytes, values::get(l, i), out, p)
+}
+
+// The elements behind the first, and what closes the list.
+fn more<N: Notation>(bytes: &[u8], l: Elements, out: &mut [u8], o: usize) -> usize
+    ensures { Appends out.old out.new o result (more_joined N.between N.closing N.spelt (drop 1 (meaning_l bytes.now l))) }
 {
     let mut p = o;
     for i in 1..values::size(l) {
-        p = element(bytes, l, i, out, p);
+        p = element::<N>(bytes, l, i, out, p);
     }
-    byte(b']', out, p)
+    N::close(out, p)
 }
 
 // A whole list.
-fn list(bytes: &[u8], l: List, out: &mut [u8], o: usize) -> usize
-    ensures { Appends out.old out.new o result (value_written (paper.sequence (meaning_l bytes.now l))) }
+fn list<N: Notation>(bytes: &[u8], l: Elements, out: &mut [u8], o: usize) -> usize
+    ensures { Appends out.old out.new o result (list_joined N.opening N.between N.closing N.spelt (meaning_l bytes.now l)) }
 {
+    let p = N::open(out, o);
     if values::size(l) == 0 {
-        return word(b"[]", out, o);
+        return N::close(out, p);
     }
-    let p = byte(b'[', out, o);
-    let q = scalar(bytes, values::get(l, 0), out, p);
-    more(bytes, l, out, q)
+    let q = N::scalar(bytes, values::get(l, 0), out, p);
+    more::<N>(bytes, l, out, q)
 }
 
 // A value: a list, or one scalar.
-pub fn value(bytes: &[u8], v: Value, out: &mut [u8], o: usize) -> usize
-    ensures { Appends out.old out.new o result (value_written (meaning_v bytes.now v)) }
+pub fn value_in<N: Notation>(bytes: &[u8], v: Value, out: &mut [u8], o: usize) -> usize
+    ensures { Appends out.old out.new o result (value_joined N.opening N.between N.closing N.spelt (meaning_v bytes.now v)) }
 {
     if v.many {
-        list(bytes, v.list, out, o)
+        list::<N>(bytes, v.list, out, o)
     } else {
-        scalar(bytes, v.one, out, o)
+        N::scalar(bytes, v.one, out, o)
     }
 }

@@ -24,21 +24,21 @@ returns-else-c-k c =
     let b = c.skip-at.ensures.0 in
     another a.stack.now a.top c.skip-at.result a.k c.skip-at.ensures.1 (omega arith) c.if-c-lt-SYMBOL.true c.if-c-k.false
 
-pub returns-in-None : goal.returns-in-None
-returns-in-None c =
+pub returns-in_err-a : goal.returns-in_err-a
+returns-in_err-a c =
     let a = c.args in
     let n = c.requires.stack_len.0 in
     let b = c.skip-at.ensures.0 in
-    no_alternative a.stack.now a.top c.skip-at.result a.k c.skip-at.ensures.1 (omega arith) (c.from.result - 128) c.if-c-lt-SYMBOL.false (ap (λ (x : ℕ). x - 128) c.from.ensures) c.in-None.ensures
+    rw c.from_residual.ensures (no_alternative a.stack.now a.top c.skip-at.result a.k c.skip-at.ensures.1 (omega arith) (c.from.result - 128) c.if-c-lt-SYMBOL.false (ap (λ (x : ℕ). x - 128) c.from.ensures) c.in_err-a.ensures)
 
 pub push-requires-clause-stack_len : goal.push-requires-clause-stack_len
 push-requires-clause-stack_len c =
     let b = c.skip-at.ensures.0 in
     let l = c.requires.stack_len.1 in
-    (c.requires.stack_len.0, (choice_some (c.from.result - 128) c.args.k c.in-Some.a c.in-Some.ensures).1, omega arith, omega arith)
+    (c.requires.stack_len.0, (choice_some (c.from.result - 128) c.args.k c.in_ok-a.a c.in_ok-a.ensures).1, omega arith, omega arith)
 
-pub returns-in-Some : goal.returns-in-Some
-returns-in-Some c =
+pub returns : goal.returns
+returns c =
     let a = c.args in
     let n = c.requires.stack_len.0 in
     let b = c.skip-at.ensures.0 in
@@ -47,5 +47,5 @@ returns-in-Some c =
     let p2 = p.2 in (
       (p.0, omega arith, omega arith),
       replaced a.stack.now a.top c.skip-at.result a.k c.skip-at.ensures.1 (omega arith) (c.from.result - 128) c.if-c-lt-SYMBOL.false (ap (λ (x : ℕ). x - 128) c.from.ensures)
-          c.in-Some.a _ c.push.result c.in-Some.ensures p.3,
+          c.in_ok-a.a _ c.push.result c.in_ok-a.ensures p.3,
     )

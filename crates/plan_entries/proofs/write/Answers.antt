@@ -1,5 +1,5 @@
 -- `write`: by the kind of the row.
-use Rattle.std.proofs.Common.{◌≡◌, refl, ap, arith}
+use Rattle.std.proofs.Common.{refl, ap, arith}
 use Rattle.plan.specs.Writes.{outline, sort_of, precondition, wait_condition, terminate}
 use Rattle.plan_entries.specs.Turns.{of_sort, no_sort, child_here}
 use Rattle.plan_entries.proofs.write.Goals as goal

@@ -5,9 +5,9 @@ use Rattle.tokens.proofs.early.Goals as goal
 
 pub returns-then-text-gt-LIMIT : goal.returns-then-text-gt-LIMIT
 returns-then-text-gt-LIMIT c =
-    let f = c.high-h.ensures in
-    ⊎_elim (early_high f) (λ (x : (length c.args.text.now ≤ c.high-h.result) × (16384 < length c.args.text.now)). let l = x.0 in early_long f (λ h. omega arith) x.1)
+    let f = c.high-place.ensures in
+    ⊎_elim (early_high f) (λ (x : (length c.args.text.now ≤ c.high-place.result) × (16384 < length c.args.text.now)). let l = x.0 in early_long f (λ h. omega arith) x.1)
     c.if-text-gt-LIMIT.either
 
 pub returns-else-text-gt-LIMIT : goal.returns-else-text-gt-LIMIT
-returns-else-text-gt-LIMIT c = early_fine c.high-h.ensures c.if-text-gt-LIMIT.false.0 c.if-text-gt-LIMIT.false.1
+returns-else-text-gt-LIMIT c = early_fine c.high-place.ensures c.if-text-gt-LIMIT.false.0 c.if-text-gt-LIMIT.false.1

@@ -35,9 +35,9 @@ loop-token-preserved c =
     let t = c.args.text.now in
     let l = c.loop-token in
     let h = c.requires.in_bounds in
-    let a = c.in-Got.ensures in
+    let a = c.in-Some.ensures in
     let e = c.put-n.ensures in (
       subst (Marks t) (sym a.1) l.invariant.0,
-      next_turn t _ _ _ l.n l.b l.kinds l.places l.lengths h.0 h.1 h.2 l.cursor l.invariant.1 c.in-Got.token c.in-Got.next a
+      next_turn t _ _ _ l.n l.b l.kinds l.places l.lengths h.0 h.1 h.2 l.cursor l.invariant.1 c.in-Some.token c.in-Some.next a
           e.value c.bracket-b.ensures e.kinds_after e.places_after e.lengths_after,
     )

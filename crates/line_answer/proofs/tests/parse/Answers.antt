@@ -1,12 +1,9 @@
 -- `line::parse` meets its contract: each exit is one of the laws of Tests.
-use Rattle.line_answer.specs.Tests.{not_read, not_unread, is_read, left_out, parsed}
+use Rattle.line_answer.specs.Tests.{not_accepted, is_read, left_out, parsed}
 use Rattle.line_answer.proofs.tests.parse.Goals as goal
 
-pub returns-in-Refused : goal.returns-in-Refused
-returns-in-Refused c = not_read c.requires c.read.ensures c.in-Refused.is
-
-pub returns-in-Unread : goal.returns-in-Unread
-returns-in-Unread c = not_unread c.requires c.read.ensures c.in-Unread.is
+pub returns-in_default : goal.returns-in_default
+returns-in_default c = not_accepted c.requires c.read.result c.read.ensures c.in_default.not-Accepted
 
 pub returns-in-At : goal.returns-in-At
 returns-in-At c = left_out c.requires (is_read c.requires c.read.ensures c.in-Accepted.is) c.left_out.ensures c.in-At.is

@@ -3,8 +3,8 @@ use Rattle.std.proofs.Common.{arith}
 use Rattle.sheet.specs.StepsLaws.{ends, goes_on}
 use Rattle.sheet.proofs.output.step.Goals as goal
 
-pub returns-then-t : goal.returns-then-t
-returns-then-t c = ends c.take-t.ensures c.if-t.true c.write_line-o.ensures c.next.ensures
+pub returns-then-ended : goal.returns-then-ended
+returns-then-ended c = ends c.take-at.ensures c.if-ended.true c.write_line-o.ensures c.next.ensures
 
-pub returns : goal.returns
-returns c = let r = c.requires in goes_on c.take-t.ensures c.args.out.now (omega arith) c.if-t.false
+pub returns-else-ended : goal.returns-else-ended
+returns-else-ended c = let r = c.requires in goes_on c.take-at.ensures c.args.out.now (omega arith) c.if-ended.false
