@@ -9,11 +9,9 @@ use values::{Scalar, Value};
 fn atom(h: usize, bytes: &[u8], names: &[u32], tags: &[u32], nums: &[u32]) -> Value
     ensures { AtomOf bytes.now names.now tags.now nums.now h result }
 {
-    let i = parts::names::find(bytes, names, h);
-    if i < names.len() {
-        items::value(tags, nums, i)
-    } else {
-        values::single(Scalar::Text(values::handle_of(h)))
+    match parts::names::item(bytes, names, h) {
+        Some(i) => items::value(tags, nums, i),
+        None => values::single(Scalar::Text(values::handle_of(h))),
     }
 }
 
