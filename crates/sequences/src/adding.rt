@@ -53,12 +53,12 @@ fn step(s: Scalar, t: Total) -> Total
 {
     match s {
         Scalar::Int(n) => Total {
-            integers: plus(numbers::wide_of(n), t.integers),
-            thousandths: plus(numbers::thousandths(n), t.thousandths),
+            integers: plus(Wide::from(n), t.integers),
+            thousandths: plus(n.thousandths(), t.thousandths),
         },
         Scalar::Real(n) => Total {
             integers: None,
-            thousandths: plus(numbers::wide_of(n), t.thousandths),
+            thousandths: plus(Wide::from(n), t.thousandths),
         },
         _ => none(),
     }
