@@ -10,23 +10,18 @@ ghost use Rattle.std.specs.Prelude.{[], ◌∷◌, ◌≤◌, take};
 ghost use Rattle.apply.specs.Applies.{Applies};
 
 use parts::Code;
+use states::Tasks;
 use values::{Scalar, Value};
 
-// The operators of three operands.
-fn three(
-    bytes: &[u8],
-    tasks: &[u32],
-    states: &[u32],
-    kind: usize,
-    a: Value,
-    b: Value,
-    c: Value,
-) -> Value
-    ensures { Applies bytes.now tasks.now states.now kind (a ∷ b ∷ c ∷ []) result }
-{
-    match kind {
-        Code::IF => operators::if_else(a, b, c),
-        _ => values::single(Scalar::Unknown),
+impl<'a> Tasks<'a> {
+    // The operators of three operands.
+    fn three(self, kind: usize, a: Value, b: Value, c: Value) -> Value
+        ensures { Applies self.entry.bytes.now self.entry.names.now self.entry.states.now kind (a ∷ b ∷ c ∷ []) result }
+    {
+        match kind {
+            Code::IF => operators::if_else(a, b, c),
+            _ => values::single(Scalar::Unknown),
+        }
     }
 }
 
@@ -43,10 +38,15 @@ pub fn applied(
 ) -> Value
     ensures { n ≤ 3 → Applies bytes.now tasks.now states.now kind (take n (a ∷ b ∷ c ∷ [])) result }
 {
+    let tasks = Tasks {
+        bytes,
+        names: tasks,
+        states,
+    };
     match n {
-        1 => one::one(bytes, tasks, states, kind, a),
-        2 => two::two(bytes, tasks, states, kind, a, b),
-        3 => three(bytes, tasks, states, kind, a, b, c),
+        1 => tasks.one(kind, a),
+        2 => tasks.two(kind, a, b),
+        3 => tasks.three(kind, a, b, c),
         _ => values::single(Scalar::Unknown),
     }
 }

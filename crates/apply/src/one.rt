@@ -4,8 +4,7 @@ ghost use Rattle.paper_expressions.specs.Operators as paper;
 ghost use Rattle.operators.specs.Means.{Means};
 ghost use Rattle.apply.specs.Applies.{Applies};
 
-use crate::states;
-use crate::states::State;
+use crate::states::{State, Tasks};
 use operators::Extreme;
 use parts::Code;
 use values::{Scalar, Value};
@@ -24,22 +23,24 @@ fn min(bytes: &[u8], a: Value) -> Value
     sequences::extreme(bytes, Extreme::Min, a)
 }
 
-// The operator with the number `kind`, or unknown if none has one operand and that number.
-pub fn one(bytes: &[u8], tasks: &[u32], states: &[u32], kind: usize, a: Value) -> Value
-    ensures { Applies bytes.now tasks.now states.now kind (a ∷ []) result }
-{
-    match kind {
-        Code::NEGATE => arithmetic::negate(a),
-        Code::ISKNOWN => operators::isknown(a),
-        Code::NOT => operators::not(a),
-        Code::COUNT => sequences::count(a),
-        Code::SUM => sequences::sum(a),
-        Code::MAX => max(bytes, a),
-        Code::MIN => min(bytes, a),
-        Code::IS_DORMANT => states::is_in(bytes, tasks, states, State::DORMANT, a),
-        Code::IS_IN_PROGRESS => states::is_in(bytes, tasks, states, State::IN_PROGRESS, a),
-        Code::IS_DISCARDED => states::is_in(bytes, tasks, states, State::DISCARDED, a),
-        Code::IS_COMPLETED => states::is_in(bytes, tasks, states, State::COMPLETED, a),
-        _ => values::single(Scalar::Unknown),
+impl<'a> Tasks<'a> {
+    // The operator with the number `kind`, or unknown if none has one operand and that number.
+    pub fn one(self, kind: usize, a: Value) -> Value
+        ensures { Applies self.entry.bytes.now self.entry.names.now self.entry.states.now kind (a ∷ []) result }
+    {
+        match kind {
+            Code::NEGATE => arithmetic::negate(a),
+            Code::ISKNOWN => operators::isknown(a),
+            Code::NOT => operators::not(a),
+            Code::COUNT => sequences::count(a),
+            Code::SUM => sequences::sum(a),
+            Code::MAX => max(self.bytes, a),
+            Code::MIN => min(self.bytes, a),
+            Code::IS_DORMANT => self.is_in(State::DORMANT, a),
+            Code::IS_IN_PROGRESS => self.is_in(State::IN_PROGRESS, a),
+            Code::IS_DISCARDED => self.is_in(State::DISCARDED, a),
+            Code::IS_COMPLETED => self.is_in(State::COMPLETED, a),
+            _ => values::single(Scalar::Unknown),
+        }
     }
 }

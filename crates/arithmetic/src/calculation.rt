@@ -36,26 +36,26 @@ fn arithmetic_of(o: Arithmetic, a: Scalar, b: Scalar) -> Scalar
     match (a, b) {
         (Scalar::Int(x), Scalar::Int(y)) => values::integer(combine(
             o,
-            numbers::wide_of(x),
-            numbers::wide_of(y),
+            Wide::from(x),
+            Wide::from(y),
             numbers::product(x, y),
         )),
         (Scalar::Int(x), Scalar::Real(y)) => values::real(combine(
             o,
-            numbers::thousandths(x),
-            numbers::wide_of(y),
+            x.thousandths(),
+            Wide::from(y),
             numbers::product(x, y),
         )),
         (Scalar::Real(x), Scalar::Int(y)) => values::real(combine(
             o,
-            numbers::wide_of(x),
-            numbers::thousandths(y),
+            Wide::from(x),
+            y.thousandths(),
             numbers::product(x, y),
         )),
         (Scalar::Real(x), Scalar::Real(y)) => values::real(combine(
             o,
-            numbers::wide_of(x),
-            numbers::wide_of(y),
+            Wide::from(x),
+            Wide::from(y),
             real_product(x, y),
         )),
         _ => Scalar::Unknown,
@@ -73,10 +73,10 @@ fn quotient(x: Wide, y: Wide) -> Scalar
     requires { nat_abs x.z ≤ 2 ^ 41 }
     ensures { result ≡ quotient_c x.z y.z }
 {
-    if numbers::is_zero(y) {
+    if y.is_zero() {
         Scalar::Unknown
     } else {
-        values::real(numbers::cut(numbers::scaled(x), y))
+        values::real(numbers::cut(x.scaled(), y))
     }
 }
 
@@ -84,13 +84,10 @@ fn divide_of(a: Scalar, b: Scalar) -> Scalar
     ensures { result ≡ divide_c a b }
 {
     match (a, b) {
-        (Scalar::Int(x), Scalar::Int(y)) => quotient(
-            numbers::thousandths(x),
-            numbers::thousandths(y),
-        ),
-        (Scalar::Int(x), Scalar::Real(y)) => quotient(numbers::thousandths(x), numbers::wide_of(y)),
-        (Scalar::Real(x), Scalar::Int(y)) => quotient(numbers::wide_of(x), numbers::thousandths(y)),
-        (Scalar::Real(x), Scalar::Real(y)) => quotient(numbers::wide_of(x), numbers::wide_of(y)),
+        (Scalar::Int(x), Scalar::Int(y)) => quotient(x.thousandths(), y.thousandths()),
+        (Scalar::Int(x), Scalar::Real(y)) => quotient(x.thousandths(), Wide::from(y)),
+        (Scalar::Real(x), Scalar::Int(y)) => quotient(Wide::from(x), y.thousandths()),
+        (Scalar::Real(x), Scalar::Real(y)) => quotient(Wide::from(x), Wide::from(y)),
         _ => Scalar::Unknown,
     }
 }
@@ -104,7 +101,7 @@ pub fn divide(a: Value, b: Value) -> Value
 fn minus(n: Num) -> Wide
     ensures { result.z ≡ pos 0 -ℤ n.z }
 {
-    numbers::difference(Wide { z: 0 }, numbers::wide_of(n))
+    numbers::difference(Wide { z: 0 }, Wide::from(n))
 }
 
 fn negate_of(a: Scalar) -> Scalar

@@ -4,7 +4,7 @@ ghost use Rattle.paper_expressions.proofs.Laws.Compare.{comp_f, comp_s, kind_s, 
 ghost use Rattle.numbers.specs.Signs.{verdict};
 ghost use Rattle.values.specs.Meaning.{meaning, meaning_l, meaning_v, goes_on_fn, end_of, size_of};
 
-use numbers::Sign;
+use numbers::{Sign, Wide};
 use values::{List, Scalar, Value};
 
 // Unknown beside anything is unknown; a number compares with a number, and a text with a text.
@@ -13,22 +13,10 @@ pub fn comp_scalars(bytes: &[u8], a: Scalar, b: Scalar) -> Sign
 {
     match (a, b) {
         (Scalar::Unknown, _) | (_, Scalar::Unknown) => Sign::Unknown,
-        (Scalar::Int(x), Scalar::Int(y)) => numbers::order(
-            numbers::thousandths(x),
-            numbers::thousandths(y),
-        ),
-        (Scalar::Int(x), Scalar::Real(y)) => numbers::order(
-            numbers::thousandths(x),
-            numbers::wide_of(y),
-        ),
-        (Scalar::Real(x), Scalar::Int(y)) => numbers::order(
-            numbers::wide_of(x),
-            numbers::thousandths(y),
-        ),
-        (Scalar::Real(x), Scalar::Real(y)) => numbers::order(
-            numbers::wide_of(x),
-            numbers::wide_of(y),
-        ),
+        (Scalar::Int(x), Scalar::Int(y)) => numbers::order(x.thousandths(), y.thousandths()),
+        (Scalar::Int(x), Scalar::Real(y)) => numbers::order(x.thousandths(), Wide::from(y)),
+        (Scalar::Real(x), Scalar::Int(y)) => numbers::order(Wide::from(x), y.thousandths()),
+        (Scalar::Real(x), Scalar::Real(y)) => numbers::order(Wide::from(x), Wide::from(y)),
         (Scalar::Text(g), Scalar::Text(h)) => values::text_order(bytes, g, h),
         _ => Sign::Unfit,
     }

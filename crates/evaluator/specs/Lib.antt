@@ -7,3 +7,4 @@ pub mod Compound
 pub mod Valued
 pub mod Published
 pub mod Example
+pub mod Lent

@@ -2,35 +2,29 @@
 ghost use Rattle.evaluator.specs.Leaves.{AtomOf, LeafOf};
 
 use super::items;
+use super::lent::Lent;
 use parts::Code;
 use values::{Scalar, Value};
 
-// Clause 1: the value of the data item whose name is alike, else the text itself.
-fn atom(h: usize, bytes: &[u8], names: &[u32], tags: &[u32], nums: &[u32]) -> Value
-    ensures { AtomOf bytes.now names.now tags.now nums.now h result }
-{
-    let i = parts::names::find(bytes, names, h);
-    if i < names.len() {
-        items::value(tags, nums, i)
-    } else {
-        values::single(Scalar::Text(values::handle_of(h)))
+impl<'a> Lent<'a> {
+    // Clause 1: the value of the data item whose name is alike, else the text itself.
+    fn atom(self, h: usize) -> Value
+        ensures { AtomOf self.entry.bytes.now self.entry.names.now self.entry.tags.now self.entry.nums.now h result }
+    {
+        match parts::names::item(self.bytes, self.names, h) {
+            Some(i) => items::value(self.tags, self.nums, i),
+            None => values::single(Scalar::Text(values::handle_of(h))),
+        }
     }
-}
 
-// Clauses 1 to 3, by the code of the part and its load. A constant's code is its tag.
-pub fn leaf(
-    kind: usize,
-    load: u32,
-    bytes: &[u8],
-    names: &[u32],
-    tags: &[u32],
-    nums: &[u32],
-) -> Value
-    ensures { LeafOf bytes.now names.now tags.now nums.now kind load result }
-{
-    if kind == Code::ATOM {
-        atom(load as usize, bytes, names, tags, nums)
-    } else {
-        values::single(items::scalar(kind, load))
+    // Clauses 1 to 3, by the code of the part and its load. A constant's code is its tag.
+    pub fn leaf(self, kind: usize, load: u32) -> Value
+        ensures { LeafOf self.entry.bytes.now self.entry.names.now self.entry.tags.now self.entry.nums.now kind load result }
+    {
+        if kind == Code::ATOM {
+            self.atom(load as usize)
+        } else {
+            values::single(items::scalar(kind, load))
+        }
     }
 }

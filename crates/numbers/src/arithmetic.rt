@@ -5,7 +5,7 @@ ghost use Rattle.paper_expressions.proofs.Laws.Compare.{order_z};
 ghost use Rattle.paper_expressions.proofs.Laws.Only.{zero_z};
 ghost use Rattle.numbers.specs.Signs.{signed};
 
-use crate::number::{Num, Wide, wide_of};
+use crate::number::{Num, Wide};
 use crate::sign::Sign;
 use std::cmp::Ordering;
 
@@ -27,14 +27,8 @@ pub fn product(a: Num, b: Num) -> Wide
     ensures { (result.z ≡ a.z *ℤ b.z) × (nat_abs result.z ≤ 2 ^ 62) }
 {
     Wide {
-        z: wide_of(a).z * wide_of(b).z,
+        z: Wide::from(a).z * Wide::from(b).z,
     }
-}
-
-pub fn is_zero(w: Wide) -> bool
-    ensures { result ≡ zero_z w.z }
-{
-    w.z == 0
 }
 
 // The quotient, cut toward zero: for real products and for quotients.

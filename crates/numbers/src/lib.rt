@@ -5,6 +5,6 @@ mod arithmetic;
 mod number;
 mod sign;
 
-pub use arithmetic::{cut, difference, is_zero, order, product, sum};
-pub use number::{Num, Wide, integer_fits, narrow, real_fits, scaled, thousandths, wide_of};
+pub use arithmetic::{cut, difference, order, product, sum};
+pub use number::{Num, Wide, integer_fits, real_fits, wide_of};
 pub use sign::Sign;

@@ -1,6 +1,6 @@
 // Names: two texts that are equal if case is ignored, and the data item that a text names.
 // A text is given by its place in the bytes and its length; a byte past the end of the bytes is 0.
-ghost use Rattle.std.specs.Prelude.{◌≡◌, ◌+◌, get_or};
+ghost use Rattle.std.specs.Prelude.{◌≡◌, ◌+◌, ◌<◌, MatchOption, get_or, length};
 ghost use Rattle.paper_expressions.specs.Bytes.{fold};
 ghost use Rattle.paper_expressions.proofs.Laws.Search.{alikeb};
 ghost use Rattle.parts.specs.Texts.{cells};
@@ -44,15 +44,19 @@ pub fn alike(bytes: &[u8], x: usize, n: usize, y: usize, m: usize) -> bool
     true
 }
 
-// The index of the data item whose name is alike to the text with the handle `h`, or how many items there are.
+// The index of the data item whose name is alike to the text with the handle `h`, if there is one.
+pub fn item(bytes: &[u8], names: &[u32], h: usize) -> Option<usize>
+    ensures { MatchOption result (Found bytes.now names.now h (length names.now)) (λ i. (i < length names.now) × Found bytes.now names.now h i) }
+{
+    names.iter().position(|name| {
+        let x = *name as usize;
+        alike(bytes, x / HANDLE, x % HANDLE, h / HANDLE, h % HANDLE)
+    })
+}
+
+// The same, or how many items there are.
 pub fn find(bytes: &[u8], names: &[u32], h: usize) -> usize
     ensures { Found bytes.now names.now h result }
 {
-    for (i, name) in names.iter().enumerate() {
-        let x = *name as usize;
-        if alike(bytes, x / HANDLE, x % HANDLE, h / HANDLE, h % HANDLE) {
-            return i;
-        }
-    }
-    names.len()
+    item(bytes, names, h).unwrap_or(names.len())
 }

@@ -2,7 +2,8 @@
 use mathlib.Core.Path.{◌≡◌, refl, sym, ap, ap₂, subst, ◌∙◌}
 use mathlib.Core.Bool.{Bool, true, false, cond}
 use mathlib.Core.List.{List, [], ◌∷◌}
-use mathlib.Core.Option.{Option}
+use mathlib.Core.Option as maths
+use Rattle.std.specs.Prelude.{Option, Some, None}
 use Prim.Native.Nat.{ℕ, suc, ◌≤◌}
 use native.Mathlib.Omega.{arith}
 use lib.IntN.{ℤ, nat_abs}
@@ -15,16 +16,17 @@ use Rattle.paper_expressions.specs.Values.{one, sequence, unit}
 use Rattle.paper_expressions.specs.Clauses.{§11·2·6-1a, §11·2·6-1b, §11·2·6-1c, §11·2·6-1d}
 use Rattle.paper_expressions.specs.Operators as section-11
 use Rattle.paper_expressions.proofs.Laws.Only.{gives, integers_f, numbers_f, total_f, sum_f}
+use Rattle.numbers.specs.declared.number.Wide.{Wide}
 use Rattle.values.specs.declared.scalar.Scalar.{Scalar}
 use Rattle.values.specs.declared.scalar.Scalar.TheVariants.{Unknown, Int, Real}
 use Rattle.values.specs.declared.list.List as Code
 use Rattle.values.specs.declared.value.Value.{Value}
-use Rattle.values.specs.Meaning.{meaning, meaning_l, at, size_of, num, integer_of, real_of_fn}
+use Rattle.values.specs.Meaning.{meaning, meaning_l, at, size_of, num}
 use Rattle.values.proofs.Lists.{element_is, size_is}
 use Rattle.operators.specs.Means.{meanings}
 use Rattle.operators.specs.Comes.{given, comes}
 use Rattle.sequences.specs.declared.adding.Total.{Total}
-use Rattle.sequences.specs.Totals.{maybe, Totals, More, total_c}
+use Rattle.sequences.specs.Totals.{maybe, Totals, More, sum_c, total_c}
 
 -- ---- from the last to the first
 
@@ -42,18 +44,18 @@ module _ (bs : List ℕ) (l : Code.List) where
 
 -- ---- the total
 
-total_is : (bs : List ℕ) (w k : Bool) (z y : ℤ) → one (meaning bs (cond w (integer_of z) (cond k (real_of_fn y) Unknown))) ≡ given (total_f (maybe w z) (maybe k y))
-total_is bs true k z y = go (leb (nat_abs z) integer_limit)
+total_is : (bs : List ℕ) (w k : Option Wide) → one (meaning bs (sum_c w k)) ≡ given (total_f (maybe w) (maybe k))
+total_is bs (Some w) k = go (leb (nat_abs w.z) integer_limit)
   where
-    go : (b : Bool) → one (meaning bs (cond b (Int (num z)) Unknown)) ≡ given (cond b (gives §11·2·6-1a (one (paper.integer z))) (gives §11·2·6-1b (one paper.unknown)))
+    go : (b : Bool) → one (meaning bs (cond b (Int (num w.z)) Unknown)) ≡ given (cond b (gives §11·2·6-1a (one (paper.integer w.z))) (gives §11·2·6-1b (one paper.unknown)))
     go true = refl
     go false = refl
-total_is bs false true z y = go (leb (nat_abs y) real_limit)
+total_is bs None (Some w) = go (leb (nat_abs w.z) real_limit)
   where
-    go : (b : Bool) → one (meaning bs (cond b (Real (num y)) Unknown)) ≡ given (cond b (gives §11·2·6-1c (one (paper.real y))) (gives §11·2·6-1d (one paper.unknown)))
+    go : (b : Bool) → one (meaning bs (cond b (Real (num w.z)) Unknown)) ≡ given (cond b (gives §11·2·6-1c (one (paper.real w.z))) (gives §11·2·6-1d (one paper.unknown)))
     go true = refl
     go false = refl
-total_is bs false false z y = refl
+total_is bs None None = refl
 
 sum_total : (l : List paper.Scalar) → given (total_f (integers_f l) (numbers_f l)) ≡ given (sum_f (sequence l))
 sum_total [] = refl
@@ -61,8 +63,8 @@ sum_total (s ∷ l) = refl
 
 pub sum_is : (bs : List ℕ) (l : List paper.Scalar) (t : Total) {s : Scalar} → s ≡ total_c t → Totals l t → one (meaning bs s) ≡ given (sum_f (sequence l))
 sum_is bs l t e h =
-    ap (λ (x : Scalar). one (meaning bs x)) e ∙ total_is bs t.whole t.known t.integers.z t.thousandths.z
-    ∙ sym (ap₂ (λ (x y : Option ℤ). given (total_f x y)) h.integers h.numbers) ∙ sum_total l
+    ap (λ (x : Scalar). one (meaning bs x)) e ∙ total_is bs t.integers t.thousandths
+    ∙ sym (ap₂ (λ (x y : maths.Option ℤ). given (total_f x y)) h.integers h.numbers) ∙ sum_total l
 
 pub sum_list : (bs : List ℕ) (a : Value) (s : Scalar) → a.many ≡ true → one (meaning bs s) ≡ given (sum_f (sequence (meaning_l bs a.list)))
     → one (meaning bs s) ≡ comes section-11.sum (meanings bs (a ∷ []))

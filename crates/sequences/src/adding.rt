@@ -6,28 +6,25 @@ ghost use Rattle.paper_expressions.proofs.Laws.Only.{sum_f};
 ghost use Rattle.values.specs.Meaning.{meaning, meaning_l};
 ghost use Rattle.operators.specs.Means.{Means};
 ghost use Rattle.operators.specs.Comes.{given};
-ghost use Rattle.sequences.specs.Totals.{Totals, More, no_total, total_c};
+ghost use Rattle.sequences.specs.Totals.{Totals, More, no_total, size, plus_c, total_c};
 
 use numbers::Wide;
 use values::{List, Scalar, Value};
 
-// The sum of some scalars, as far as they have one: as integers, if each is one; in thousandths, if each is a number.
+// The sums of some scalars: of the integers, if each is one; in thousandths, if each is a number.
 #[derive(Drop)]
 pub struct Total {
-    pub whole: bool,
-    pub integers: Wide,
-    pub known: bool,
-    pub thousandths: Wide,
+    pub integers: Option<Wide>,
+    pub thousandths: Option<Wide>,
 }
 
 fn start() -> Total
-    ensures { Totals [] result × (nat_abs result.integers.z ≤ 0) × (nat_abs result.thousandths.z ≤ 0) }
+    ensures { Totals [] result × (size result.integers ≤ 0) × (size result.thousandths ≤ 0) }
 {
+    let zero = Wide { z: 0 };
     Total {
-        whole: true,
-        integers: Wide { z: 0 },
-        known: true,
-        thousandths: Wide { z: 0 },
+        integers: Some(zero),
+        thousandths: Some(zero),
     }
 }
 
@@ -36,28 +33,32 @@ fn none() -> Total
     ensures { result ≡ no_total }
 {
     Total {
-        whole: false,
-        integers: Wide { z: 0 },
-        known: false,
-        thousandths: Wide { z: 0 },
+        integers: None,
+        thousandths: None,
     }
+}
+
+// A number more, if there is a sum.
+fn plus(n: Wide, sum: Option<Wide>) -> Option<Wide>
+    requires { (nat_abs n.z ≤ 2 ^ 41) × (size sum ≤ 2 ^ 60) }
+    ensures { result ≡ plus_c n sum }
+{
+    sum.map(|w| numbers::sum(n, w))
 }
 
 // One scalar more, before the others.
 fn step(s: Scalar, t: Total) -> Total
-    requires { (nat_abs t.integers.z ≤ 2 ^ 60) × (nat_abs t.thousandths.z ≤ 2 ^ 60) }
+    requires { (size t.integers ≤ 2 ^ 60) × (size t.thousandths ≤ 2 ^ 60) }
     ensures { More s t result }
 {
     match s {
         Scalar::Int(n) => Total {
-            integers: numbers::sum(numbers::wide_of(n), t.integers),
-            thousandths: numbers::sum(numbers::thousandths(n), t.thousandths),
-            ..t
+            integers: plus(Wide::from(n), t.integers),
+            thousandths: plus(n.thousandths(), t.thousandths),
         },
         Scalar::Real(n) => Total {
-            whole: false,
-            thousandths: numbers::sum(numbers::wide_of(n), t.thousandths),
-            ..t
+            integers: None,
+            thousandths: plus(Wide::from(n), t.thousandths),
         },
         _ => none(),
     }
@@ -66,12 +67,10 @@ fn step(s: Scalar, t: Total) -> Total
 fn finished(t: Total) -> Scalar
     ensures { result ≡ total_c t }
 {
-    if t.whole {
-        values::integer(t.integers)
-    } else if t.known {
-        values::real(t.thousandths)
-    } else {
-        Scalar::Unknown
+    match (t.integers, t.thousandths) {
+        (Some(w), _) => values::integer(w),
+        (None, Some(w)) => values::real(w),
+        (None, None) => Scalar::Unknown,
     }
 }
 

@@ -1,5 +1,5 @@
 -- The laws by which the walk of the typer finds a type: operands from the last to the first. By what the operands left, and those already typed, are.
-use Rattle.std.specs.Prelude.{◌≡◌, refl, false, List, [], ◌∷◌, ℕ, zero, suc, ◌+◌, ◌-◌, ◌≤◌, ◌<◌}
+use Rattle.std.specs.Prelude.{◌≡◌, refl, List, Option, Some, [], ◌∷◌, ℕ, zero, suc, ◌+◌, ◌-◌, ◌≤◌, ◌<◌}
 use Rattle.std.proofs.Common.{sym, ap, subst, ◌∙◌, not-suc-le-zero, arith, eq-eqb}
 use Rattle.paper_expressions.specs.Types.{Ty}
 use Rattle.paper_expressions.specs.View.{View, Apart}
@@ -13,7 +13,7 @@ use Rattle.parts.specs.Items.{Items}
 use Rattle.typer.specs.declared.lists.Summary.{Summary}
 use Rattle.resolution.specs.Letters.{letter, letter_some, Outcome, is, none, outcome_iff, one_answer}
 use Rattle.typer.specs.Leaves.{LeafTyped}
-use Rattle.typer.specs.Summary.{summary, start_of, push_of, all_typed, not_all}
+use Rattle.typer.specs.Summary.{summary, start_of, push_of, untyped_of, all_typed, not_all}
 use Rattle.typer.specs.Typed.{Typed, Gathered}
 use Rattle.typer.specs.Compound.{compound_of, compound_typed}
 
@@ -73,19 +73,19 @@ module _ (t : Table) (names types : List ℕ) (T p n d : ℕ) where
       next v k es ts x s s' y l hs e u (none m) = absurd (y refl)
 
   -- the last that is left has no type
-  pub going_stop : (k q x : ℕ) (s s' : Summary) → 0 < k → x ≡ 0 → Going k q s → Typed t names types T q (d - 1) x → s'.typed ≡ false → Gathered t names types T p n d s'
-  going_stop zero q x s s' z y g f e = absurd (not-suc-le-zero z)
-  going_stop (suc k) q x s s' z y g f e = λ v a es apart i b h c w.
+  pub going_stop : (k q x : ℕ) (s : Summary) → 0 < k → x ≡ 0 → Going k q s → Typed t names types T q (d - 1) x → Gathered t names types T p n d untyped_of
+  going_stop zero q x s z y g f = absurd (not-suc-le-zero z)
+  going_stop (suc k) q x s z y g f = λ v a es apart i b h c w.
       let o = g v a es apart i b h c w in
       let l = o.0.few in
-      not_all (λ ts hs. stop v (nth_of es k) x y (have_nth k hs (omega arith)) (f v (nth_of es k) apart i (left_ends t es a k q h o.0) (within_nth (d - 1) es k w (omega arith)))) e
+      not_all (λ ts hs. stop v (nth_of es k) x y (have_nth k hs (omega arith)) (f v (nth_of es k) apart i (left_ends t es a k q h o.0) (within_nth (d - 1) es k w (omega arith)))) refl
     where
       stop : (v : View) (e : Expr) (x : ℕ) → x ≡ 0 → (t : Ty) × HasType v T e t → Outcome (HasType v T e) x → ⊥
       stop v e x y h (is {t = τ} k) = some_letter τ y
       stop v e x y h (none m) = m h.0 h.1
 
-  pub going_done : (k q : ℕ) (s : Summary) → k ≤ 0 → Going k q s → Gathered t names types T p n d s
-  going_done zero q s z g = λ v a es apart i b h c w. let o = g v a es apart i b h c w in all_typed o.2 o.3
+  pub going_done : (k q : ℕ) (s : Summary) → k ≤ 0 → Going k q s → Gathered t names types T p n d (Some s)
+  going_done zero q s z g = λ v a es apart i b h c w. let o = g v a es apart i b h c w in all_typed o.2 (ap Some o.3)
   going_done (suc k) q s z g = absurd (not-suc-le-zero z)
 
 -- ---- the expression
@@ -102,7 +102,7 @@ module _ (t : Table) (names types : List ℕ) (T d : ℕ) where
       let o = (ended h).root in
       f v ex i (e ∙ o.kinds) l (subst (Load t.bytes ex) (sym y) o.loads)
 
-  pub by_operands : (q k n r : ℕ) (s : Summary) → k ≡ code_at t (q - 1) → ¬ (k < 5) → n ≡ count_at t (q - 1)
+  pub by_operands : (q k n r : ℕ) (s : Option Summary) → k ≡ code_at t (q - 1) → ¬ (k < 5) → n ≡ count_at t (q - 1)
       → Gathered t names types T (q - 1) n d s → r ≡ compound_of k n s → Typed t names types T q d r
   by_operands q k n r s e l c g y v ex apart i h w =
       let o = ended h in

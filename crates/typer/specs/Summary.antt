@@ -1,5 +1,5 @@
 -- What is gathered of the types of operands, and that it has what rules 8 to 10 ask for. By the first three types.
-use Rattle.std.specs.Prelude.{◌≡◌, refl, true, false, List, [], ◌∷◌, ℕ}
+use Rattle.std.specs.Prelude.{◌≡◌, refl, true, List, [], ◌∷◌, Option, Some, None, ℕ, is_some}
 use Rattle.paper_expressions.specs.Types.{Ty}
 use Rattle.paper_expressions.specs.View.{View}
 use Rattle.paper_expressions.specs.Expressions.{Exprs, HaveTypes}
@@ -9,13 +9,14 @@ use Rattle.resolution.specs.Resolution.{slots}
 use Rattle.typer.specs.Lists.{join_of, list_type}
 
 abbrev pub start_of : Summary
-start_of = record { typed = true; first = 32; second = 32; third = 32; list = 97 }
+start_of = record { first = 32; second = 32; third = 32; list = 97 }
 
-abbrev pub untyped_of : Summary
-untyped_of = record { typed = false; first = 0; second = 0; third = 0; list = 0 }
+-- some operand has no type
+abbrev pub untyped_of : Option Summary
+untyped_of = None
 
 abbrev pub push_of : ℕ → Summary → Summary
-push_of x s = record { typed = true; first = x; second = s.first; third = s.second; list = join_of x s.list }
+push_of x s = record { first = x; second = s.first; third = s.second; list = join_of x s.list }
 
 -- of operands of these types
 abbrev pub summary : List Ty → Summary
@@ -23,13 +24,12 @@ summary [] = start_of
 summary (t ∷ ts) = push_of (letter t) (summary ts)
 
 -- of operands that may have no type
-pub data Summed (v : View) (T : ℕ) (es : Exprs) (s : Summary) : Type 0 where
-  all_typed : {ts : List Ty} → HaveTypes v T es ts → s ≡ summary ts → Summed v T es s
-  not_all : ((ts : List Ty) → ¬ HaveTypes v T es ts) → s.typed ≡ false → Summed v T es s
+pub data Summed (v : View) (T : ℕ) (es : Exprs) (s : Option Summary) : Type 0 where
+  all_typed : {ts : List Ty} → HaveTypes v T es ts → s ≡ Some (summary ts) → Summed v T es s
+  not_all : ((ts : List Ty) → ¬ HaveTypes v T es ts) → s ≡ untyped_of → Summed v T es s
 
-pub summary_typed : (ts : List Ty) → (summary ts).typed ≡ true
-summary_typed [] = refl
-summary_typed (t ∷ ts) = refl
+pub summary_typed : (ts : List Ty) → is_some (Some (summary ts)) ≡ true
+summary_typed ts = refl
 
 pub summary_list : (ts : List Ty) → (summary ts).list ≡ list_type ts
 summary_list [] = refl

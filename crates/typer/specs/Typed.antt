@@ -1,5 +1,5 @@
 -- What the typer has to find in a table: the type of an expression, and what is gathered of its operands. Definitions only.
-use Rattle.std.specs.Prelude.{◌≡◌, List, ℕ, ◌+◌, ◌-◌}
+use Rattle.std.specs.Prelude.{◌≡◌, List, Option, ℕ, ◌+◌, ◌-◌}
 use Rattle.paper_expressions.specs.View.{View, Apart}
 use Rattle.paper_expressions.specs.Expressions.{Expr, Exprs, HasType}
 use Rattle.parts.specs.Part.{Table, sizes, number_of, HoldsAll, Ends, Within, Withins}
@@ -15,7 +15,7 @@ Typed t names types T q d r =
     (v : View) (e : Expr) → Apart v → Items t.bytes names types v → Ends t q e → Within d e → Outcome (HasType v T e) r
 
 -- s is what is gathered of the n operands that end at p
-abbrev pub Gathered : Table → List ℕ → List ℕ → ℕ → ℕ → ℕ → ℕ → Summary → Type 0
+abbrev pub Gathered : Table → List ℕ → List ℕ → ℕ → ℕ → ℕ → ℕ → Option Summary → Type 0
 Gathered t names types T p n d s =
     (v : View) (a : ℕ) (es : Exprs) → Apart v → Items t.bytes names types v
     → a + sizes es ≡ p → HoldsAll t a es → number_of es ≡ n → Withins (d - 1) es → Summed v T es s

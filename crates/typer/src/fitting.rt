@@ -15,8 +15,10 @@ pub enum Role {
 fn assignable(found: u8, bytes: &[u8], names: &[u32], types: &[u8], h: usize) -> bool
     ensures { Assignable bytes.now names.now types.now h found result }
 {
-    let i = parts::names::find(bytes, names, h);
-    i < names.len() && resolution::meets(found, leaves::inferred(parts::byte(types, i)), true)
+    match parts::names::item(bytes, names, h) {
+        Some(i) => resolution::meets(found, leaves::inferred(parts::byte(types, i)), true),
+        None => false,
+    }
 }
 
 // Whether the type found fits the role.

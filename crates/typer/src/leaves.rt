@@ -15,11 +15,9 @@ pub fn inferred(declared: u8) -> u8
 fn atom(task: usize, h: usize, bytes: &[u8], names: &[u32], types: &[u8]) -> u8
     ensures { AtomTyped bytes.now names.now types.now task h result }
 {
-    let i = parts::names::find(bytes, names, h);
-    if i < names.len() {
-        inferred(parts::byte(types, i))
-    } else {
-        b'T'
+    match parts::names::item(bytes, names, h) {
+        Some(i) => inferred(parts::byte(types, i)),
+        None => b'T',
     }
 }
 

@@ -20,22 +20,19 @@ use parts::{Code, Family};
 // No operator takes more operands.
 const OPERANDS: usize = 3;
 
-// A list or an application, from its operands.
-fn compound(kind: usize, n: usize, s: Summary) -> u8
-    ensures { result ≡ compound_of kind n s }
+// A list or an application, from its operands; none if some operand has no type.
+fn compound(kind: usize, n: usize, operands: Option<Summary>) -> u8
+    ensures { result ≡ compound_of kind n operands }
 {
-    if !s.typed {
-        0
-    } else if kind == Code::LIST {
-        s.list
-    } else if OPERANDS < n {
-        0
-    } else {
-        resolution::apply(kind / Family::SIZE, s.first, s.second, s.third)
+    match operands {
+        None => 0,
+        Some(s) if kind == Code::LIST => s.list,
+        Some(_) if OPERANDS < n => 0,
+        Some(s) => resolution::apply(kind / Family::SIZE, s.first, s.second, s.third),
     }
 }
 
-// The types of the `n` operands that end at `p`, from the last to the first.
+// The types of the `n` operands that end at `p`, from the last to the first, if each has one.
 #[cycle(operands_type_of)]
 fn operands(
     cells: &[u32],
@@ -46,7 +43,7 @@ fn operands(
     p: usize,
     n: usize,
     depth: usize,
-) -> Summary
+) -> Option<Summary>
     requires { 0 < depth }
     ensures { Gathered (table cells.now bytes.now) names.now types.now task p n depth result }
 {
@@ -55,12 +52,12 @@ fn operands(
     for _ in 0..n {
         let t = type_of(cells, bytes, names, types, task, q, depth - 1);
         if t == 0 {
-            return Summary::untyped();
+            return None;
         }
         s = s.push(t);
         q = parts::back(cells, q);
     }
-    s
+    Some(s)
 }
 
 // The type of the expression of a task whose parts end before `end`, if it is at most `depth` deep.

@@ -1,12 +1,11 @@
 // The types of operands, gathered from the last to the first, and the type of a list of them: 4.1, rules 8 and 9.
 ghost use Rattle.std.specs.Prelude.{◌≡◌};
 ghost use Rattle.typer.specs.Lists.{join_of};
-ghost use Rattle.typer.specs.Summary.{start_of, push_of, untyped_of};
+ghost use Rattle.typer.specs.Summary.{start_of, push_of};
 
-// Whether each operand so far has a type, the first three types, blank where there is no operand, and the type of a list of them.
+// The first three types of the operands so far, blank where there is no operand, and the type of a list of them.
 #[derive(Drop)]
 pub struct Summary {
-    pub typed: bool,
     pub first: u8,
     pub second: u8,
     pub third: u8,
@@ -19,24 +18,10 @@ impl Summary {
         ensures { result ≡ start_of }
     {
         Summary {
-            typed: true,
             first: b' ',
             second: b' ',
             third: b' ',
             list: b'a',
-        }
-    }
-
-    // Some operand has no type.
-    pub fn untyped() -> Self
-        ensures { result ≡ untyped_of }
-    {
-        Summary {
-            typed: false,
-            first: 0,
-            second: 0,
-            third: 0,
-            list: 0,
         }
     }
 
@@ -45,7 +30,6 @@ impl Summary {
         ensures { result ≡ push_of t self }
     {
         Summary {
-            typed: true,
             first: t,
             second: self.first,
             third: self.second,

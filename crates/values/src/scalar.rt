@@ -35,7 +35,7 @@ pub fn integer(w: Wide) -> Scalar
     ensures { result ≡ integer_of w.z }
 {
     if numbers::integer_fits(w) {
-        Scalar::Int(numbers::narrow(w))
+        Scalar::Int(w.narrow())
     } else {
         Scalar::Unknown
     }
@@ -46,7 +46,7 @@ pub fn real(w: Wide) -> Scalar
     ensures { result ≡ real_of_fn w.z }
 {
     if numbers::real_fits(w) {
-        Scalar::Real(numbers::narrow(w))
+        Scalar::Real(w.narrow())
     } else {
         Scalar::Unknown
     }

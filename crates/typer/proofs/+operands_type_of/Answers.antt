@@ -1,7 +1,6 @@
 -- Each goal is a step of the walk, from the last operand to the first, or of the expression by its root.
-use Rattle.std.proofs.Common.{ℕ, ◌≡◌, ◌-◌, ◌+◌, ap, subst, arith}
+use Rattle.std.proofs.Common.{ℕ, ◌≡◌, ◌-◌, ◌+◌, subst, arith}
 use Rattle.parts.specs.Part.{table}
-use Rattle.typer.specs.declared.lists.Summary.{Summary}
 use Rattle.typer.proofs.TypedLaws.{Going, going_first, going_on, going_stop, going_done, nothing_ends, too_deep, by_operands}
 use Rattle.typer.proofs.+operands_type_of.Goals as goal
 use Rattle.typer.proofs.+operands_type_of.Goals.{type_of-then-end-eq0-via-then-end-eq0, type_of-then-end-eq0-via-else-end-eq0+then-depth-eq0}
@@ -17,7 +16,7 @@ pub operands-returns-then-t-eq0 : goal.operands-returns-then-t-eq0
 operands-returns-then-t-eq0 t c =
     let a = c.args in
     let l = c.loop in
-    going_stop (table a.cells.now a.bytes.now) a.names.now a.types.now a.task a.p a.n a.depth (a.n - l.counter) l.q c.type_of-t.result l.s c.untyped.result (omega arith) c.if-t-eq0.true l.invariant c.type_of-t.ensures (ap (λ (s : Summary). s.typed) c.untyped.ensures)
+    going_stop (table a.cells.now a.bytes.now) a.names.now a.types.now a.task a.p a.n a.depth (a.n - l.counter) l.q c.type_of-t.result l.s (omega arith) c.if-t-eq0.true l.invariant c.type_of-t.ensures
 
 pub operands-loop-preserved : goal.operands-loop-preserved
 operands-loop-preserved t c =
