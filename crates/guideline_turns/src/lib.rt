@@ -5,11 +5,12 @@ mod lines;
 
 ghost use Rattle.std.specs.Prelude.{◌≡◌, true, false, ◌≤◌};
 ghost use Rattle.paper_guideline.specs.Limits.{token_limit};
-ghost use Rattle.leaves.specs.Source.{source};
+ghost use Rattle.leaves.specs.Source.{source_of};
 ghost use Rattle.guideline_rows.specs.Flat.{front, behind};
 ghost use Rattle.guideline_turns.specs.Made.{mode_of, onto, PlainSteps, Steps};
 
 use expression_steps::kind_at;
+use leaves::Tokens;
 use limits::TokenList;
 use terminals::Terminal;
 
@@ -83,31 +84,23 @@ fn stuck() -> Passed
 }
 
 // In a postcondition before an assignment: a parenthesis or the assignment.
-fn before(
-    text: &[u8],
-    kinds: &[u8],
-    places: &[usize],
-    lengths: &[usize],
-    cells: &mut [u32],
-    p: usize,
-    u: usize,
-) -> Passed
+fn before(tokens: Tokens, cells: &mut [u32], p: usize, u: usize) -> Passed
     requires { (p ≤ token_limit) × (u ≤ p) }
-    ensures { Steps front (source text.now kinds.now places.now lengths.now) cells.old cells.new p u result }
+    ensures { Steps front (source_of tokens.entry) cells.old cells.new p u result }
 {
-    if kind_at(kinds, p) == Terminal::LEFT_PARENTHESIS {
+    if kind_at(tokens.kinds, p) == Terminal::LEFT_PARENTHESIS {
         on(p + 1, Mode::BEFORE)
     } else {
-        lines::assignment(text, kinds, places, lengths, cells, p, u)
+        lines::assignment(tokens, cells, p, u)
     }
 }
 
 // Behind an assignment: a parenthesis closes, `and` goes on, or the postcondition ends.
-fn after(text: &[u8], kinds: &[u8], places: &[usize], lengths: &[usize], p: usize) -> Passed
+fn after(tokens: Tokens, p: usize) -> Passed
     requires { p ≤ token_limit }
-    ensures { PlainSteps behind (source text.now kinds.now places.now lengths.now) p result }
+    ensures { PlainSteps behind (source_of tokens.entry) p result }
 {
-    let mode = match kind_at(kinds, p) {
+    let mode = match kind_at(tokens.kinds, p) {
         Terminal::RIGHT_PARENTHESIS => Mode::BEHIND,
         Terminal::AND => Mode::BEFORE,
         _ => Mode::ROW,
@@ -116,25 +109,16 @@ fn after(text: &[u8], kinds: &[u8], places: &[usize], lengths: &[usize], p: usiz
 }
 
 // One turn, from the token `p` on. The parts of an expression are written from the part `u` on, as far as there is room.
-pub fn step(
-    text: &[u8],
-    kinds: &[u8],
-    places: &[usize],
-    lengths: &[usize],
-    cells: &mut [u32],
-    p: usize,
-    mode: u8,
-    u: usize,
-) -> Passed
+pub fn step(tokens: Tokens, cells: &mut [u32], p: usize, mode: u8, u: usize) -> Passed
     requires { u ≤ p }
-    ensures { Steps (mode_of mode) (source text.now kinds.now places.now lengths.now) cells.old cells.new p u result }
+    ensures { Steps (mode_of mode) (source_of tokens.entry) cells.old cells.new p u result }
 {
     if TokenList::LIMIT < p {
         return stuck();
     }
     match mode {
-        Mode::ROW => lines::line(text, kinds, places, lengths, cells, p, u),
-        Mode::BEFORE => before(text, kinds, places, lengths, cells, p, u),
-        _ => after(text, kinds, places, lengths, p),
+        Mode::ROW => lines::line(tokens, cells, p, u),
+        Mode::BEFORE => before(tokens, cells, p, u),
+        _ => after(tokens, p),
     }
 }

@@ -3,6 +3,7 @@ ghost use Rattle.std.specs.Prelude.{◌≡◌};
 ghost use Rattle.guideline_walk.specs.Made.{SpellsName, MovesName, MovesTexts};
 
 use guideline_rows::spelt;
+use leaves::Tokens;
 use leaves::names::Span;
 use limits::Guideline;
 use parts::HANDLE;
@@ -16,11 +17,11 @@ pub struct Moved {
 }
 
 // The name that the token `j` is, without its quotes.
-fn name_at(text: &[u8], places: &[usize], lengths: &[usize], j: usize) -> Span
-    ensures { SpellsName text.now places.now lengths.now j result }
+fn name_at(tokens: Tokens, j: usize) -> Span
+    ensures { SpellsName tokens.entry.text.now tokens.entry.places.now tokens.entry.lengths.now j result }
 {
-    let s = spelt(text, places, lengths, j);
-    if Guideline::LIMIT < text.len() || HANDLE <= s.n {
+    let s = spelt(tokens, j);
+    if Guideline::LIMIT < tokens.text.len() || HANDLE <= s.n {
         Span { at: 0, n: 0 }
     } else {
         s
@@ -28,16 +29,8 @@ fn name_at(text: &[u8], places: &[usize], lengths: &[usize], j: usize) -> Span
 }
 
 // Moves the name that the token `j` is, if the row has one, to the bytes from `o` on.
-pub fn move_name(
-    text: &[u8],
-    places: &[usize],
-    lengths: &[usize],
-    bytes: &mut [u8],
-    named: bool,
-    j: usize,
-    o: usize,
-) -> Moved
-    ensures { MovesName text.now places.now lengths.now bytes.old bytes.new named j o result }
+pub fn move_name(tokens: Tokens, bytes: &mut [u8], named: bool, j: usize, o: usize) -> Moved
+    ensures { MovesName tokens.entry.text.now tokens.entry.places.now tokens.entry.lengths.now bytes.old bytes.new named j o result }
 {
     if !named {
         return Moved {
@@ -45,7 +38,7 @@ pub fn move_name(
             behind: o,
         };
     }
-    let s = name_at(text, places, lengths, j);
+    let s = name_at(tokens, j);
     let n = s.n;
     if !room(bytes.len(), o, n) {
         return Moved {
@@ -53,7 +46,7 @@ pub fn move_name(
             behind: NOWHERE,
         };
     }
-    copy(text, s.at, n, bytes, o);
+    copy(tokens.text, s.at, n, bytes, o);
     Moved {
         handle: (o * HANDLE + n) as u32,
         behind: o + n,

@@ -16,5 +16,5 @@ pub returns : goal.returns
 returns c =
     rw c.on.ensures (record {
       onward = λ e. read_went _ c.requires.0 c.requires.1 (c.read-e.ensures.onward (not-false _ c.if-not-e.false)) refl (omega arith);
-      done = λ w r m rs f x. assignment_gives f _ _ _ c.cell.ensures c.cell-2.ensures c.read-e.ensures c.large.ensures x;
+      done = λ w r m rs f x. assignment_gives f _ _ _ c.place.ensures c.place-2.ensures c.read-e.ensures c.large.ensures x;
     })
