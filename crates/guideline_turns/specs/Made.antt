@@ -1,5 +1,5 @@
 -- What the turns have to do: where the next one stands, and what its row says. Definitions only.
-use Rattle.std.specs.Prelude.{ℕ, ◌+◌, ◌*◌, ◌≤◌, ◌<◌, ◌≡◌, Bool, true, false, cond, ◌⊎◌, List, [], ◌∷◌, eqb, length}
+use Rattle.std.specs.Prelude.{ℕ, ◌+◌, ◌*◌, ◌≤◌, ◌<◌, ◌≡◌, Bool, true, false, cond, ◌⊎◌, List, [], ◌∷◌, eqb, length, Option as Maybe, Some, IfSome, IsSomeAnd}
 use Rattle.std.proofs.Math.Option.{Option, none, some}
 use Rattle.paper_expressions.specs.Limits.{list_limit}
 use Rattle.paper_guideline.specs.Limits.{guideline_limit, token_limit, part_limit, depth_limit}
@@ -39,7 +39,7 @@ letter finish = 46
 
 -- on to a token, with no row
 abbrev pub onto : ℕ → ℕ → Passed
-onto n m = record { ok = true; next = n; mode = m; row = false; kind = 0; word = 0; named = false; name = 0; place = 0; first = 0; end = 0; start = 0; large = false; flag = 0 }
+onto n m = record { next = n; mode = m; row = false; kind = 0; word = 0; named = false; name = 0; place = 0; first = 0; end = 0; start = 0; large = false; flag = 0 }
 
 abbrev pub IsLarge : ℕ → ℕ → Bool → Type 0
 IsLarge depth longest true = (depth_limit < depth) ⊎ (list_limit < longest)
@@ -90,7 +90,6 @@ Tells c k l u t (x ∷ []) = Told c k l u t x
 Tells c k l u t (x ∷ y ∷ z) = ⊥
 
 pub record Gives (c : Source) (k l : List ℕ) (u : ℕ) (t : Passed) (m : Mode) (r : List Token) (rs : List Row) : Type 0 where
-  pub ok : t.ok ≡ true
   pub stand : Stand c t.next r
   pub mode : mode_of t.mode ≡ m
   pub rows : Tells c k l u t rs
@@ -116,18 +115,18 @@ pub record Went (k l : List ℕ) (p u : ℕ) (t : Passed) : Type 0 where
   pub more : u ≤ parts_then u t
   pub beside : Beside u (parts_then u t) k l
 
--- a turn of a shape, of the shape that the first token tells, and of any
-pub record Passes (s : Shape) (c : Source) (k l : List ℕ) (p u : ℕ) (t : Passed) : Type 0 where
-  pub onward : t.ok ≡ true → Went k l p u t
-  pub done : (w r : List Token) (m : Mode) (rs : List Row) → Fair c p w → Turn s w r m rs → Gives c k l u t m r rs
+-- a turn of a shape, of the shape that the first token tells, and of any: no turn that stands there is given up
+pub record Passes (s : Shape) (c : Source) (k l : List ℕ) (p u : ℕ) (o : Maybe Passed) : Type 0 where
+  pub onward : IfSome o (Went k l p u)
+  pub done : (w r : List Token) (m : Mode) (rs : List Row) → Fair c p w → Turn s w r m rs → IsSomeAnd o (λ t. Gives c k l u t m r rs)
 
-pub record Steps (m : Mode) (c : Source) (k l : List ℕ) (p u : ℕ) (t : Passed) : Type 0 where
-  pub onward : t.ok ≡ true → Went k l p u t
-  pub done : (s : Shape) (w r : List Token) (n : Mode) (rs : List Row) → shape m (kind_of w) ≡ s → Fair c p w → Turn s w r n rs → Gives c k l u t n r rs
+pub record Steps (m : Mode) (c : Source) (k l : List ℕ) (p u : ℕ) (o : Maybe Passed) : Type 0 where
+  pub onward : IfSome o (Went k l p u)
+  pub done : (s : Shape) (w r : List Token) (n : Mode) (rs : List Row) → shape m (kind_of w) ≡ s → Fair c p w → Turn s w r n rs → IsSomeAnd o (λ t. Gives c k l u t n r rs)
 
 -- without an expression: whatever the part table
 abbrev pub Plain : Shape → Source → ℕ → Passed → Type 0
-Plain s c p t = (k : List ℕ) (u : ℕ) → u ≤ p → Passes s c k k p u t
+Plain s c p t = (k : List ℕ) (u : ℕ) → u ≤ p → Passes s c k k p u (Some t)
 
 abbrev pub PlainSteps : Mode → Source → ℕ → Passed → Type 0
-PlainSteps m c p t = (k : List ℕ) (u : ℕ) → u ≤ p → Steps m c k k p u t
+PlainSteps m c p t = (k : List ℕ) (u : ℕ) → u ≤ p → Steps m c k k p u (Some t)

@@ -1,5 +1,5 @@
 -- Each turn, by what it passes: where the next one stands, and what its row says. By the tokens that stand in the columns.
-use Rattle.std.specs.Prelude.{ℕ, ◌+◌, ◌*◌, ◌≤◌, ◌<◌, ◌≡◌, refl, Bool, true, false, cond, List, [], ◌∷◌, eqb, get_or, length}
+use Rattle.std.specs.Prelude.{ℕ, ◌+◌, ◌*◌, ◌≤◌, ◌<◌, ◌≡◌, refl, Bool, true, false, cond, List, [], ◌∷◌, eqb, get_or, length, Option as Maybe}
 use Rattle.std.proofs.Common.{sym, ap, subst, ◌∙◌, ⊎_elim, inl, inr, arith, eqb-true, ne_eqb}
 use Rattle.std.proofs.Math.Option.{none, some}
 use Rattle.paper_expressions.proofs.Laws.Tests.{two, contra}
@@ -109,9 +109,8 @@ word_at s e = e ∙ sym (stand_here s).place
 
 module _ {c : Source} {p u : ℕ} {k : List ℕ} where
   pub task_gives : {w r : List Token} {m : Mode} {rs : List Row} → Fair c p w → (n q : ℕ) → n ≡ kind_at c.kinds p → q ≡ get_or c.places (p + 2) 0 → Turn task_line w r m rs
-      → Gives c k k u (record { ok = true; next = p + 4; mode = 0; row = true; kind = n; word = 0; named = true; name = p + 2; place = q; first = 0; end = 0; start = 0; large = false; flag = 0 }) m r rs
+      → Gives c k k u (record { next = p + 4; mode = 0; row = true; kind = n; word = 0; named = true; name = p + 2; place = q; first = 0; end = 0; start = 0; large = false; flag = 0 }) m r rs
   task_gives f n q a b (a_task_line h i) = record {
-    ok = refl;
     stand = four_on f.stand;
     mode = refl;
     rows = record {
@@ -131,9 +130,8 @@ module _ {c : Source} {p u : ℕ} {k : List ℕ} where
   }
 
   pub data_gives : {w r : List Token} {m : Mode} {rs : List Row} → Fair c p w → (q d : ℕ) → q ≡ get_or c.places (p + 2) 0 → Declares c.text c.places c.lengths (p + 6) d → Turn data_lines w r m rs
-      → Gives c k k u (record { ok = true; next = p + 8; mode = 0; row = true; kind = 18; word = 0; named = true; name = p + 2; place = q; first = 0; end = 0; start = 0; large = false; flag = d }) m r rs
+      → Gives c k k u (record { next = p + 8; mode = 0; row = true; kind = 18; word = 0; named = true; name = p + 2; place = q; first = 0; end = 0; start = 0; large = false; flag = d }) m r rs
   data_gives f q d b e (some_data_lines {k = t} {x = x} i y) = record {
-    ok = refl;
     stand = moved (omega arith) (four_on (four_on f.stand));
     mode = refl;
     rows = record {
@@ -153,9 +151,8 @@ module _ {c : Source} {p u : ℕ} {k : List ℕ} where
   }
 
   pub name_gives : {w r : List Token} {m : Mode} {rs : List Row} → Fair c p w → (n o q : ℕ) → n ≡ kind_at c.kinds p → o ≡ get_or c.places p 0 → q ≡ get_or c.places (p + 2) 0 → Turn name_line w r m rs
-      → Gives c k k u (record { ok = true; next = p + 4; mode = 0; row = true; kind = n; word = o; named = true; name = p + 2; place = q; first = 0; end = 0; start = 0; large = false; flag = 0 }) m r rs
+      → Gives c k k u (record { next = p + 4; mode = 0; row = true; kind = n; word = o; named = true; name = p + 2; place = q; first = 0; end = 0; start = 0; large = false; flag = 0 }) m r rs
   name_gives f n o q a v b (a_name_line h i) = record {
-    ok = refl;
     stand = four_on f.stand;
     mode = refl;
     rows = record {
@@ -175,9 +172,8 @@ module _ {c : Source} {p u : ℕ} {k : List ℕ} where
   }
 
   pub answer_gives : {w r : List Token} {m : Mode} {rs : List Row} → Fair c p w → (n o d : ℕ) → n ≡ kind_at c.kinds p → o ≡ get_or c.places p 0 → Answers c.text c.places c.lengths (p + 2) d → Turn answer_line w r m rs
-      → Gives c k k u (record { ok = true; next = p + 4; mode = 0; row = true; kind = n; word = o; named = false; name = 0; place = 0; first = 0; end = 0; start = 0; large = false; flag = d }) m r rs
+      → Gives c k k u (record { next = p + 4; mode = 0; row = true; kind = n; word = o; named = false; name = 0; place = 0; first = 0; end = 0; start = 0; large = false; flag = d }) m r rs
   answer_gives f n o d a v e (an_answer_line {y = y} {b = b} h z) = record {
-    ok = refl;
     stand = four_on f.stand;
     mode = refl;
     rows = record {
@@ -197,9 +193,8 @@ module _ {c : Source} {p u : ℕ} {k : List ℕ} where
   }
 
   pub constraint_gives : {w r : List Token} {m : Mode} {rs : List Row} → Fair c p w → (o q : ℕ) → o ≡ get_or c.places p 0 → q ≡ get_or c.places (p + 4) 0 → Turn constraint_line w r m rs
-      → Gives c k k u (record { ok = true; next = p + 7; mode = 0; row = true; kind = 57; word = o; named = true; name = p + 4; place = q; first = 0; end = 0; start = 0; large = false; flag = 0 }) m r rs
+      → Gives c k k u (record { next = p + 7; mode = 0; row = true; kind = 57; word = o; named = true; name = p + 4; place = q; first = 0; end = 0; start = 0; large = false; flag = 0 }) m r rs
   constraint_gives f o q v b (a_constraint_line i) = record {
-    ok = refl;
     stand = moved (omega arith) (three_on (four_on f.stand));
     mode = refl;
     rows = record {
@@ -219,9 +214,8 @@ module _ {c : Source} {p u : ℕ} {k : List ℕ} where
   }
 
   pub postcondition_gives : {w r : List Token} {m : Mode} {rs : List Row} → Fair c p w → (o : ℕ) → o ≡ get_or c.places p 0 → Turn postcondition_word w r m rs
-      → Gives c k k u (record { ok = true; next = p + 2; mode = 1; row = true; kind = 50; word = o; named = false; name = 0; place = 0; first = 0; end = 0; start = 0; large = false; flag = 0 }) m r rs
+      → Gives c k k u (record { next = p + 2; mode = 1; row = true; kind = 50; word = o; named = false; name = 0; place = 0; first = 0; end = 0; start = 0; large = false; flag = 0 }) m r rs
   postcondition_gives f o v a_postcondition_word = record {
-    ok = refl;
     stand = two_on f.stand;
     mode = refl;
     rows = record {
@@ -259,12 +253,11 @@ module _ {c : Source} {k l : List ℕ} {p u : ℕ} {e : Built} where
 
   pub expression_gives : {w r : List Token} {m : Mode} {rs : List Row} → Fair c p w → (n o q : ℕ) (b : Bool) → n ≡ kind_at c.kinds p → o ≡ get_or c.places p 0 → q ≡ get_or c.places (p + 2) 0
       → Reads anywhere c k l (p + 2) u e → IsLarge e.depth e.longest b → Turn expression_line w r m rs
-      → Gives c k l u (record { ok = true; next = e.next + 1; mode = 0; row = true; kind = n; word = o; named = false; name = 0; place = 0; first = u; end = e.used; start = q; large = b; flag = 0 }) m r rs
+      → Gives c k l u (record { next = e.next + 1; mode = 0; row = true; kind = n; word = o; named = false; name = 0; place = 0; first = u; end = e.used; start = q; large = b; flag = 0 }) m r rs
   expression_gives f n o q b a v j x lg (an_expression_line {x = t} {s = s} {w = w} {r = r} {e = y} h i z sc) =
       let g = two_fine f.stand f.fine in
       let d = x.done g.count (t ∷ w) (s ∷ r) y (two_on f.stand) z (line_ends r sc) g.all in
       record {
-        ok = refl;
         stand = stand_next d.stand;
         mode = refl;
         rows = record {
@@ -290,12 +283,11 @@ module _ {c : Source} {k l : List ℕ} {p u : ℕ} {e : Built} where
 
   pub assignment_gives : {w r : List Token} {m : Mode} {rs : List Row} → Fair c p w → (o q : ℕ) (b : Bool) → o ≡ get_or c.places p 0 → q ≡ get_or c.places (p + 2) 0
       → Reads assigned c k l (p + 2) u e → IsLarge e.depth e.longest b → Turn assignment_there w r m rs
-      → Gives c k l u (record { ok = true; next = e.next; mode = 2; row = true; kind = 81; word = 0; named = true; name = p; place = o; first = u; end = e.used; start = q; large = b; flag = 0 }) m r rs
+      → Gives c k l u (record { next = e.next; mode = 2; row = true; kind = 81; word = 0; named = true; name = p; place = o; first = u; end = e.used; start = q; large = b; flag = 0 }) m r rs
   assignment_gives f o q b v j x lg (assigns {x = t} {w = w} {r = r} {e = y} h z i) =
       let g = two_fine f.stand f.fine in
       let d = x.done g.count (t ∷ w) r y (two_on f.stand) z i g.all in
       record {
-        ok = refl;
         stand = d.stand;
         mode = refl;
         rows = record {
@@ -318,45 +310,45 @@ module _ {c : Source} {k l : List ℕ} {p u : ℕ} {e : Built} where
 
 module _ {c : Source} {p : ℕ} (near : p ≤ token_limit) where
   end_gives : {k : List ℕ} {u : ℕ} {w r : List Token} {m : Mode} {rs : List Row} → Fair c p w → Turn end_line w r m rs → Gives c k k u (onto (p + 3) 0) m r rs
-  end_gives f an_end_line = record { ok = refl; stand = three_on f.stand; mode = refl; rows = (refl, refl) }
+  end_gives f an_end_line = record { stand = three_on f.stand; mode = refl; rows = (refl, refl) }
 
   pub end_passes : Plain end_line c p (onto (p + 3) 0)
-  end_passes k u h = record { onward = λ e. plain_went k (onto (p + 3) 0) near (omega arith) refl h; done = λ w r m rs f x. end_gives f x }
+  end_passes k u h = record { onward = plain_went k (onto (p + 3) 0) near (omega arith) refl h; done = λ w r m rs f x. end_gives f x }
 
   opening_gives : {k : List ℕ} {u : ℕ} {w r : List Token} {m : Mode} {rs : List Row} → Fair c p w → Turn opening w r m rs → Gives c k k u (onto (p + 1) 1) m r rs
-  opening_gives f opens = record { ok = refl; stand = stand_next f.stand; mode = refl; rows = (refl, refl) }
+  opening_gives f opens = record { stand = stand_next f.stand; mode = refl; rows = (refl, refl) }
 
   pub opening_passes : Plain opening c p (onto (p + 1) 1)
-  opening_passes k u h = record { onward = λ e. plain_went k (onto (p + 1) 1) near (omega arith) refl h; done = λ w r m rs f x. opening_gives f x }
+  opening_passes k u h = record { onward = plain_went k (onto (p + 1) 1) near (omega arith) refl h; done = λ w r m rs f x. opening_gives f x }
 
   closing_gives : {k : List ℕ} {u : ℕ} {w r : List Token} {m : Mode} {rs : List Row} → Fair c p w → Turn closing w r m rs → Gives c k k u (onto (p + 1) 2) m r rs
-  closing_gives f closes = record { ok = refl; stand = stand_next f.stand; mode = refl; rows = (refl, refl) }
+  closing_gives f closes = record { stand = stand_next f.stand; mode = refl; rows = (refl, refl) }
 
   pub closing_passes : Plain closing c p (onto (p + 1) 2)
-  closing_passes k u h = record { onward = λ e. plain_went k (onto (p + 1) 2) near (omega arith) refl h; done = λ w r m rs f x. closing_gives f x }
+  closing_passes k u h = record { onward = plain_went k (onto (p + 1) 2) near (omega arith) refl h; done = λ w r m rs f x. closing_gives f x }
 
   going_on_gives : {k : List ℕ} {u : ℕ} {w r : List Token} {m : Mode} {rs : List Row} → Fair c p w → Turn going_on w r m rs → Gives c k k u (onto (p + 1) 1) m r rs
-  going_on_gives f goes_on = record { ok = refl; stand = stand_next f.stand; mode = refl; rows = (refl, refl) }
+  going_on_gives f goes_on = record { stand = stand_next f.stand; mode = refl; rows = (refl, refl) }
 
   pub going_on_passes : Plain going_on c p (onto (p + 1) 1)
-  going_on_passes k u h = record { onward = λ e. plain_went k (onto (p + 1) 1) near (omega arith) refl h; done = λ w r m rs f x. going_on_gives f x }
+  going_on_passes k u h = record { onward = plain_went k (onto (p + 1) 1) near (omega arith) refl h; done = λ w r m rs f x. going_on_gives f x }
 
   finish_gives : {k : List ℕ} {u : ℕ} {w r : List Token} {m : Mode} {rs : List Row} → Fair c p w → Turn finish w r m rs → Gives c k k u (onto (p + 1) 0) m r rs
-  finish_gives f finishes = record { ok = refl; stand = stand_next f.stand; mode = refl; rows = (refl, refl) }
+  finish_gives f finishes = record { stand = stand_next f.stand; mode = refl; rows = (refl, refl) }
 
   pub finish_passes : Plain finish c p (onto (p + 1) 0)
-  finish_passes k u h = record { onward = λ e. plain_went k (onto (p + 1) 0) near (omega arith) refl h; done = λ w r m rs f x. finish_gives f x }
+  finish_passes k u h = record { onward = plain_went k (onto (p + 1) 0) near (omega arith) refl h; done = λ w r m rs f x. finish_gives f x }
 
 -- ---- turns by their first token
 
 module _ {c : Source} {p : ℕ} where
-  pub by_kind : {k l : List ℕ} {u : ℕ} {t : Passed} {m : Mode} {s : Shape} (n : ℕ) → n ≡ kind_at c.kinds p → shape m n ≡ s → Passes s c k l p u t → Steps m c k l p u t
+  pub by_kind : {k l : List ℕ} {u : ℕ} {t : Maybe Passed} {m : Mode} {s : Shape} (n : ℕ) → n ≡ kind_at c.kinds p → shape m n ≡ s → Passes s c k l p u t → Steps m c k l p u t
   by_kind {m = m} n e h x = record {
     onward = x.onward;
     done = λ s w r n rs g f y. x.done w r n rs f (subst (λ (z : Shape). Turn z w r n rs) (sym g ∙ ap (shape m) (sym (e ∙ stand_kind f.stand)) ∙ h) y);
   }
 
-  pub same_mode : {k l : List ℕ} {u : ℕ} {t : Passed} {m n : Mode} → m ≡ n → Steps n c k l p u t → Steps m c k l p u t
+  pub same_mode : {k l : List ℕ} {u : ℕ} {t : Maybe Passed} {m n : Mode} → m ≡ n → Steps n c k l p u t → Steps m c k l p u t
   same_mode {k} {l} {u} {t} e x = subst (λ (z : Mode). Steps z c k l p u t) (sym e) x
 
   -- no token stands so far on

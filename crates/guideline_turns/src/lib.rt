@@ -3,7 +3,7 @@
 
 mod lines;
 
-ghost use Rattle.std.specs.Prelude.{◌≡◌, true, false, ◌≤◌};
+ghost use Rattle.std.specs.Prelude.{◌≡◌, ◌≤◌};
 ghost use Rattle.paper_guideline.specs.Limits.{token_limit};
 ghost use Rattle.leaves.specs.Source.{source_of};
 ghost use Rattle.guideline_rows.specs.Flat.{front, behind};
@@ -29,7 +29,6 @@ impl Mode {
 // What a turn passed, and the row that it gives, if any.
 #[derive(Clone, Copy)]
 pub struct Passed {
-    pub ok: bool,
     // the token behind it
     pub next: usize,
     // where the next turn begins
@@ -57,7 +56,6 @@ fn on(next: usize, mode: u8) -> Passed
     ensures { result ≡ onto next mode }
 {
     Passed {
-        ok: true,
         next,
         mode,
         row: false,
@@ -74,22 +72,13 @@ fn on(next: usize, mode: u8) -> Passed
     }
 }
 
-fn stuck() -> Passed
-    ensures { result.ok ≡ false }
-{
-    Passed {
-        ok: false,
-        ..on(0, Mode::ROW)
-    }
-}
-
 // In a postcondition before an assignment: a parenthesis or the assignment.
-fn before(tokens: Tokens, cells: &mut [u32], p: usize, u: usize) -> Passed
+fn before(tokens: Tokens, cells: &mut [u32], p: usize, u: usize) -> Option<Passed>
     requires { (p ≤ token_limit) × (u ≤ p) }
     ensures { Steps front (source_of tokens.entry) cells.old cells.new p u result }
 {
     if kind_at(tokens.kinds, p) == Terminal::LEFT_PARENTHESIS {
-        on(p + 1, Mode::BEFORE)
+        Some(on(p + 1, Mode::BEFORE))
     } else {
         lines::assignment(tokens, cells, p, u)
     }
@@ -109,16 +98,16 @@ fn after(tokens: Tokens, p: usize) -> Passed
 }
 
 // One turn, from the token `p` on. The parts of an expression are written from the part `u` on, as far as there is room.
-pub fn step(tokens: Tokens, cells: &mut [u32], p: usize, mode: u8, u: usize) -> Passed
+pub fn step(tokens: Tokens, cells: &mut [u32], p: usize, mode: u8, u: usize) -> Option<Passed>
     requires { u ≤ p }
     ensures { Steps (mode_of mode) (source_of tokens.entry) cells.old cells.new p u result }
 {
     if TokenList::LIMIT < p {
-        return stuck();
+        return None;
     }
     match mode {
         Mode::ROW => lines::line(tokens, cells, p, u),
         Mode::BEFORE => before(tokens, cells, p, u),
-        _ => after(tokens, p),
+        _ => Some(after(tokens, p)),
     }
 }

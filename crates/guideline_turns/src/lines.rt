@@ -5,7 +5,7 @@ ghost use Rattle.leaves.specs.Source.{source_of};
 ghost use Rattle.guideline_rows.specs.Flat.{outside, task_line, data_lines, expression_line, name_line, answer_line, constraint_line, postcondition_word, assignment_there, shape_outside};
 ghost use Rattle.guideline_turns.specs.Made.{letter, IsLarge, Plain, Passes, Steps};
 
-use super::{Mode, Passed, on, stuck};
+use super::{Mode, Passed, on};
 use expression_steps::kind_at;
 use leaves::Tokens;
 use limits::Expression;
@@ -69,7 +69,7 @@ fn data_item(tokens: Tokens, p: usize) -> Passed
 }
 
 // `caption :: expression ;`
-fn expression(tokens: Tokens, cells: &mut [u32], p: usize, u: usize) -> Passed
+fn expression(tokens: Tokens, cells: &mut [u32], p: usize, u: usize) -> Option<Passed>
     requires { (p ≤ token_limit) × (u ≤ p) }
     ensures { Passes expression_line (source_of tokens.entry) cells.old cells.new p u result }
 {
@@ -84,13 +84,13 @@ fn expression(tokens: Tokens, cells: &mut [u32], p: usize, u: usize) -> Passed
         u,
     );
     if !e.ok {
-        return stuck();
+        return None;
     }
     let n = e.next;
     if tokens.kinds.len() <= n {
-        return stuck();
+        return None;
     }
-    Passed {
+    Some(Passed {
         row: true,
         kind: kind_at(tokens.kinds, p),
         word: tokens.place(p),
@@ -99,7 +99,7 @@ fn expression(tokens: Tokens, cells: &mut [u32], p: usize, u: usize) -> Passed
         start: tokens.place(p + 2),
         large: large(e.depth, e.longest),
         ..on(n + 1, Mode::ROW)
-    }
+    })
 }
 
 // `component :: name ;`
@@ -162,7 +162,7 @@ fn postcondition(tokens: Tokens, p: usize) -> Passed
 }
 
 // `name = expression`
-pub fn assignment(tokens: Tokens, cells: &mut [u32], p: usize, u: usize) -> Passed
+pub fn assignment(tokens: Tokens, cells: &mut [u32], p: usize, u: usize) -> Option<Passed>
     requires { (p ≤ token_limit) × (u ≤ p) }
     ensures { Passes assignment_there (source_of tokens.entry) cells.old cells.new p u result }
 {
@@ -177,9 +177,9 @@ pub fn assignment(tokens: Tokens, cells: &mut [u32], p: usize, u: usize) -> Pass
         u,
     );
     if !e.ok {
-        return stuck();
+        return None;
     }
-    Passed {
+    Some(Passed {
         row: true,
         kind: Terminal::EQUALS,
         named: true,
@@ -190,22 +190,22 @@ pub fn assignment(tokens: Tokens, cells: &mut [u32], p: usize, u: usize) -> Pass
         start: tokens.place(p + 2),
         large: large(e.depth, e.longest),
         ..on(e.next, Mode::BEHIND)
-    }
+    })
 }
 
 // A line, by its first token.
-pub fn line(tokens: Tokens, cells: &mut [u32], p: usize, u: usize) -> Passed
+pub fn line(tokens: Tokens, cells: &mut [u32], p: usize, u: usize) -> Option<Passed>
     requires { (p ≤ token_limit) × (u ≤ p) }
     ensures { Steps outside (source_of tokens.entry) cells.old cells.new p u result }
 {
     match shape(kind_at(tokens.kinds, p)) {
-        b't' => task(tokens, p),
-        b'd' => data_item(tokens, p),
+        b't' => Some(task(tokens, p)),
+        b'd' => Some(data_item(tokens, p)),
         b'e' => expression(tokens, cells, p, u),
-        b'n' => name(tokens, p),
-        b'y' => answer(tokens, p),
-        b'c' => constraint(tokens, p),
-        b'p' => postcondition(tokens, p),
-        _ => on(p + 3, Mode::ROW),
+        b'n' => Some(name(tokens, p)),
+        b'y' => Some(answer(tokens, p)),
+        b'c' => Some(constraint(tokens, p)),
+        b'p' => Some(postcondition(tokens, p)),
+        _ => Some(on(p + 3, Mode::ROW)),
     }
 }

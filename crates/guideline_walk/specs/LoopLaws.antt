@@ -1,5 +1,5 @@
 -- Laws of the walk: what is passed and what is left, and one turn. The rows passed are added up, and written where there is room.
-use Rattle.std.specs.Prelude.{ℕ, ◌+◌, ◌*◌, ◌≤◌, ◌<◌, ◌≡◌, refl, true, ◌⊎◌, List, [], ◌∷◌, ◌++◌, length, get_or}
+use Rattle.std.specs.Prelude.{ℕ, ◌+◌, ◌*◌, ◌≤◌, ◌<◌, ◌≡◌, refl, true, ◌⊎◌, List, [], ◌∷◌, ◌++◌, length, get_or, Option as Maybe, None, Some, IsSomeAnd}
 use Rattle.std.proofs.Common.{sym, ap, subst, ◌∙◌, inl, inr, append_assoc, append-nil, arith, length-append}
 use Rattle.std.proofs.Math.Decide.{dec_lt}
 use Rattle.paper_tokens.specs.Lexical.{Token}
@@ -166,7 +166,7 @@ module _ {c : Source} {x y k l b d : List ℕ} {p m : ℕ} {w : Totals} {rows : 
     abbrev now : Turning (mode_of m) u.tokens u.left
     now = turning u.flat (let l = stand_length u.fair.stand in omega arith)
 
-    given : {l' : List ℕ} {t : Passed} → Steps (mode_of m) c l l' p w.parts t → Gives c l l' w.parts t now.next now.rest now.here
+    given : {l' : List ℕ} {o : Maybe Passed} → Steps (mode_of m) c l l' p w.parts o → IsSomeAnd o (λ t. Gives c l l' w.parts t now.next now.rest now.here)
     given s = s.done now.shape u.tokens now.rest now.next now.here now.shaped u.fair now.one
 
     rows_are : rows ≡ u.passed ++ (now.here ++ now.others)
@@ -215,12 +215,12 @@ module _ {c : Source} {x y k l b d : List ℕ} {p m : ℕ} {w : Totals} {rows : 
           }
       by_rows (a ∷ b ∷ l) h e q = absurd h
 
-    pub step_ok : {l' : List ℕ} {t : Passed} → Steps (mode_of m) c l l' p w.parts t → t.ok ≡ true
-    step_ok s = (given s).ok
+    pub step_ok : {l' : List ℕ} → Steps (mode_of m) c l l' p w.parts None → ⊥
+    step_ok s = given s
 
-    pub next_turn : {l' y' l'' d' : List ℕ} {t : Passed} {r : Totals} → Steps (mode_of m) c l l' p w.parts t → Writes c.text c.places c.lengths y y' l' l'' d d' w t r
+    pub next_turn : {l' y' l'' d' : List ℕ} {t : Passed} {r : Totals} → Steps (mode_of m) c l l' p w.parts (Some t) → Writes c.text c.places c.lengths y y' l' l'' d d' w t r
         → Upto c x y' k l'' b d' t.next t.mode r rows
-    next_turn s q = by_rows (given s) (s.onward (step_ok s)) now.here (given s).rows rows_are q
+    next_turn s q = by_rows (given s) s.onward now.here (given s).rows rows_are q
 
   -- ---- at the end
 

@@ -101,10 +101,9 @@ pub fn walk(
     let mut p = 0;
     let mut mode = Mode::ROW;
     while p < kinds.len() {
-        let t = step(tokens, cells, p, mode, w.parts);
-        if !t.ok {
+        let Some(t) = step(tokens, cells, p, mode, w.parts) else {
             return stuck();
-        }
+        };
         w = write(tokens, rows, cells, bytes, w, t);
         p = t.next;
         mode = t.mode;
