@@ -7,7 +7,7 @@ ghost use Rattle.std.specs.Prelude.{◌≡◌, ◌≤◌};
 ghost use Rattle.paper_guideline.specs.Limits.{token_limit};
 ghost use Rattle.leaves.specs.Source.{source_of};
 ghost use Rattle.guideline_rows.specs.Flat.{front, behind};
-ghost use Rattle.guideline_turns.specs.Made.{mode_of, onto, PlainSteps, Steps};
+ghost use Rattle.guideline_turns.specs.Made.{mode_of, onto, place_in, first_in, end_in, start_in, PlainSteps, Steps};
 
 use expression_steps::kind_at;
 use leaves::Tokens;
@@ -26,6 +26,74 @@ impl Mode {
     pub const BEHIND: u8 = 2;
 }
 
+// A name: the token that it is, and its place.
+#[derive(Clone, Copy)]
+pub struct Label {
+    pub token: usize,
+    pub place: usize,
+}
+
+// An expression: its first part, the one behind its last, where it starts, and whether it is too deep or has too long a list.
+#[derive(Clone, Copy)]
+pub struct Extent {
+    pub first: usize,
+    pub end: usize,
+    pub start: usize,
+    pub large: bool,
+}
+
+// What a row says.
+#[derive(Clone, Copy)]
+pub struct Entry {
+    // the terminal of the row's word ("=" for an assignment), and the place of an attribute's
+    pub kind: u8,
+    pub word: usize,
+    pub name: Option<Label>,
+    pub expression: Option<Extent>,
+    // yes (1) or no (2), or the number of a declared type
+    pub flag: u8,
+}
+
+impl Entry {
+    // Where its name stands; 0 if it has none.
+    pub fn place(self) -> usize
+        ensures { result ≡ place_in self.name }
+    {
+        match self.name {
+            Some(name) => name.place,
+            None => 0,
+        }
+    }
+
+    // Of its expression the first part, the one behind the last, and where it starts; 0 if it has none.
+    pub fn first(self) -> usize
+        ensures { result ≡ first_in self.expression }
+    {
+        match self.expression {
+            Some(e) => e.first,
+            None => 0,
+        }
+    }
+
+    pub fn end(self) -> usize
+        ensures { result ≡ end_in self.expression }
+    {
+        match self.expression {
+            Some(e) => e.end,
+            None => 0,
+        }
+    }
+
+    pub fn start(self) -> usize
+        ensures { result ≡ start_in self.expression }
+    {
+        match self.expression {
+            Some(e) => e.start,
+            None => 0,
+        }
+    }
+}
+
 // What a turn passed, and the row that it gives, if any.
 #[derive(Clone, Copy)]
 pub struct Passed {
@@ -33,22 +101,7 @@ pub struct Passed {
     pub next: usize,
     // where the next turn begins
     pub mode: u8,
-    pub row: bool,
-    // the terminal of the row's word ("=" for an assignment), and the place of an attribute's
-    pub kind: u8,
-    pub word: usize,
-    // whether it has a name, the token that is its name, and its place
-    pub named: bool,
-    pub name: usize,
-    pub place: usize,
-    // the first part of its expression, the one behind the last, and where it starts; 0 if it has none
-    pub first: usize,
-    pub end: usize,
-    pub start: usize,
-    // whether its expression is too deep, or has too long a list
-    pub large: bool,
-    // yes (1) or no (2), or the number of a declared type
-    pub flag: u8,
+    pub row: Option<Entry>,
 }
 
 // On to `next`, with no row.
@@ -58,17 +111,7 @@ fn on(next: usize, mode: u8) -> Passed
     Passed {
         next,
         mode,
-        row: false,
-        kind: 0,
-        word: 0,
-        named: false,
-        name: 0,
-        place: 0,
-        first: 0,
-        end: 0,
-        start: 0,
-        large: false,
-        flag: 0,
+        row: None,
     }
 }
 

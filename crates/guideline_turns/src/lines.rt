@@ -1,11 +1,11 @@
 // What a turn passes: a line that begins with a word, or an assignment.
-ghost use Rattle.std.specs.Prelude.{◌≡◌, ◌≤◌};
+ghost use Rattle.std.specs.Prelude.{◌≡◌, ◌≤◌, get_or};
 ghost use Rattle.paper_guideline.specs.Limits.{token_limit};
 ghost use Rattle.leaves.specs.Source.{source_of};
 ghost use Rattle.guideline_rows.specs.Flat.{outside, task_line, data_lines, expression_line, name_line, answer_line, constraint_line, postcondition_word, assignment_there, shape_outside};
 ghost use Rattle.guideline_turns.specs.Made.{letter, IsLarge, Plain, Passes, Steps};
 
-use super::{Mode, Passed, on};
+use super::{Entry, Extent, Label, Mode, Passed, on};
 use expression_steps::kind_at;
 use leaves::Tokens;
 use limits::Expression;
@@ -37,18 +37,31 @@ fn large(depth: usize, longest: usize) -> bool
     Expression::DEPTH < depth || List::LIST_LIMIT < longest
 }
 
+// The token `j`, which is a name, and its place.
+fn label(tokens: Tokens, j: usize) -> Label
+    ensures { result ≡ record { token = j; place = get_or tokens.entry.places.now j 0 } }
+{
+    Label {
+        token: j,
+        place: tokens.place(j),
+    }
+}
+
 // `plan :: name ;`
 fn task(tokens: Tokens, p: usize) -> Passed
     requires { p ≤ token_limit }
     ensures { Plain task_line (source_of tokens.entry) p result }
 {
     Passed {
-        row: true,
-        kind: kind_at(tokens.kinds, p),
-        named: true,
-        name: p + 2,
-        place: tokens.place(p + 2),
-        ..on(p + 4, Mode::ROW)
+        next: p + 4,
+        mode: Mode::ROW,
+        row: Some(Entry {
+            kind: kind_at(tokens.kinds, p),
+            word: 0,
+            name: Some(label(tokens, p + 2)),
+            expression: None,
+            flag: 0,
+        }),
     }
 }
 
@@ -58,13 +71,15 @@ fn data_item(tokens: Tokens, p: usize) -> Passed
     ensures { Plain data_lines (source_of tokens.entry) p result }
 {
     Passed {
-        row: true,
-        kind: Terminal::DATA,
-        named: true,
-        name: p + 2,
-        place: tokens.place(p + 2),
-        flag: guideline_rows::declared(tokens, p + 6),
-        ..on(p + 8, Mode::ROW)
+        next: p + 8,
+        mode: Mode::ROW,
+        row: Some(Entry {
+            kind: Terminal::DATA,
+            word: 0,
+            name: Some(label(tokens, p + 2)),
+            expression: None,
+            flag: guideline_rows::declared(tokens, p + 6),
+        }),
     }
 }
 
@@ -91,14 +106,20 @@ fn expression(tokens: Tokens, cells: &mut [u32], p: usize, u: usize) -> Option<P
         return None;
     }
     Some(Passed {
-        row: true,
-        kind: kind_at(tokens.kinds, p),
-        word: tokens.place(p),
-        first: u,
-        end: e.used,
-        start: tokens.place(p + 2),
-        large: large(e.depth, e.longest),
-        ..on(n + 1, Mode::ROW)
+        next: n + 1,
+        mode: Mode::ROW,
+        row: Some(Entry {
+            kind: kind_at(tokens.kinds, p),
+            word: tokens.place(p),
+            name: None,
+            expression: Some(Extent {
+                first: u,
+                end: e.used,
+                start: tokens.place(p + 2),
+                large: large(e.depth, e.longest),
+            }),
+            flag: 0,
+        }),
     })
 }
 
@@ -108,13 +129,15 @@ fn name(tokens: Tokens, p: usize) -> Passed
     ensures { Plain name_line (source_of tokens.entry) p result }
 {
     Passed {
-        row: true,
-        kind: kind_at(tokens.kinds, p),
-        word: tokens.place(p),
-        named: true,
-        name: p + 2,
-        place: tokens.place(p + 2),
-        ..on(p + 4, Mode::ROW)
+        next: p + 4,
+        mode: Mode::ROW,
+        row: Some(Entry {
+            kind: kind_at(tokens.kinds, p),
+            word: tokens.place(p),
+            name: Some(label(tokens, p + 2)),
+            expression: None,
+            flag: 0,
+        }),
     }
 }
 
@@ -124,11 +147,15 @@ fn answer(tokens: Tokens, p: usize) -> Passed
     ensures { Plain answer_line (source_of tokens.entry) p result }
 {
     Passed {
-        row: true,
-        kind: kind_at(tokens.kinds, p),
-        word: tokens.place(p),
-        flag: guideline_rows::answer(tokens, p + 2),
-        ..on(p + 4, Mode::ROW)
+        next: p + 4,
+        mode: Mode::ROW,
+        row: Some(Entry {
+            kind: kind_at(tokens.kinds, p),
+            word: tokens.place(p),
+            name: None,
+            expression: None,
+            flag: guideline_rows::answer(tokens, p + 2),
+        }),
     }
 }
 
@@ -138,13 +165,15 @@ fn constraint(tokens: Tokens, p: usize) -> Passed
     ensures { Plain constraint_line (source_of tokens.entry) p result }
 {
     Passed {
-        row: true,
-        kind: Terminal::SCHEDULE_CONSTRAINT,
-        word: tokens.place(p),
-        named: true,
-        name: p + 4,
-        place: tokens.place(p + 4),
-        ..on(p + 7, Mode::ROW)
+        next: p + 7,
+        mode: Mode::ROW,
+        row: Some(Entry {
+            kind: Terminal::SCHEDULE_CONSTRAINT,
+            word: tokens.place(p),
+            name: Some(label(tokens, p + 4)),
+            expression: None,
+            flag: 0,
+        }),
     }
 }
 
@@ -154,10 +183,15 @@ fn postcondition(tokens: Tokens, p: usize) -> Passed
     ensures { Plain postcondition_word (source_of tokens.entry) p result }
 {
     Passed {
-        row: true,
-        kind: Terminal::POSTCONDITION,
-        word: tokens.place(p),
-        ..on(p + 2, Mode::BEFORE)
+        next: p + 2,
+        mode: Mode::BEFORE,
+        row: Some(Entry {
+            kind: Terminal::POSTCONDITION,
+            word: tokens.place(p),
+            name: None,
+            expression: None,
+            flag: 0,
+        }),
     }
 }
 
@@ -180,16 +214,20 @@ pub fn assignment(tokens: Tokens, cells: &mut [u32], p: usize, u: usize) -> Opti
         return None;
     }
     Some(Passed {
-        row: true,
-        kind: Terminal::EQUALS,
-        named: true,
-        name: p,
-        place: tokens.place(p),
-        first: u,
-        end: e.used,
-        start: tokens.place(p + 2),
-        large: large(e.depth, e.longest),
-        ..on(e.next, Mode::BEHIND)
+        next: e.next,
+        mode: Mode::BEHIND,
+        row: Some(Entry {
+            kind: Terminal::EQUALS,
+            word: 0,
+            name: Some(label(tokens, p)),
+            expression: Some(Extent {
+                first: u,
+                end: e.used,
+                start: tokens.place(p + 2),
+                large: large(e.depth, e.longest),
+            }),
+            flag: 0,
+        }),
     })
 }
 

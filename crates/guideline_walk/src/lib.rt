@@ -10,7 +10,7 @@ ghost use Rattle.std.specs.Prelude.{◌≡◌, false};
 ghost use Rattle.leaves.specs.Source.{source};
 ghost use Rattle.guideline_walk.specs.Made.{Small, Writes, Walks};
 
-use guideline_turns::{Mode, Passed, step};
+use guideline_turns::{Entry, Mode, step};
 use leaves::Tokens;
 
 // What the rows passed amount to.
@@ -54,16 +54,16 @@ fn write(
     cells: &mut [u32],
     bytes: &mut [u8],
     w: Totals,
-    t: Passed,
+    row: Option<Entry>,
 ) -> Totals
     requires { Small w }
-    ensures { Writes tokens.entry.text.now tokens.entry.places.now tokens.entry.lengths.now rows.old rows.new cells.old cells.new bytes.old bytes.new w t result }
+    ensures { Writes tokens.entry.text.now tokens.entry.places.now tokens.entry.lengths.now rows.old rows.new cells.old cells.new bytes.old bytes.new w row result }
 {
-    if !t.row {
+    let Some(t) = row else {
         return w;
-    }
-    let m = texts::move_name(tokens, bytes, t.named, t.name, w.bytes);
-    let o = texts::move_texts(tokens.text, cells, bytes, t.first, t.end, m.behind);
+    };
+    let m = texts::move_name(tokens, bytes, t.name, w.bytes);
+    let o = texts::move_texts(tokens.text, cells, bytes, t.expression, m.behind);
     table::put(rows, w.rows, t, m.handle);
     adding::add(w, t, o)
 }
@@ -104,7 +104,7 @@ pub fn walk(
         let Some(t) = step(tokens, cells, p, mode, w.parts) else {
             return stuck();
         };
-        w = write(tokens, rows, cells, bytes, w, t);
+        w = write(tokens, rows, cells, bytes, w, t.row);
         p = t.next;
         mode = t.mode;
     }

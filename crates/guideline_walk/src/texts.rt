@@ -3,6 +3,7 @@ ghost use Rattle.std.specs.Prelude.{◌≡◌};
 ghost use Rattle.guideline_walk.specs.Made.{SpellsName, MovesName, MovesTexts};
 
 use guideline_rows::spelt;
+use guideline_turns::{Extent, Label};
 use leaves::Tokens;
 use leaves::names::Span;
 use limits::Guideline;
@@ -28,17 +29,17 @@ fn name_at(tokens: Tokens, j: usize) -> Span
     }
 }
 
-// Moves the name that the token `j` is, if the row has one, to the bytes from `o` on.
-pub fn move_name(tokens: Tokens, bytes: &mut [u8], named: bool, j: usize, o: usize) -> Moved
-    ensures { MovesName tokens.entry.text.now tokens.entry.places.now tokens.entry.lengths.now bytes.old bytes.new named j o result }
+// Moves the name of a row, if it has one, to the bytes from `o` on.
+pub fn move_name(tokens: Tokens, bytes: &mut [u8], name: Option<Label>, o: usize) -> Moved
+    ensures { MovesName tokens.entry.text.now tokens.entry.places.now tokens.entry.lengths.now bytes.old bytes.new name o result }
 {
-    if !named {
+    let Some(name) = name else {
         return Moved {
             handle: 0,
             behind: o,
         };
-    }
-    let s = name_at(tokens, j);
+    };
+    let s = name_at(tokens, name.token);
     let n = s.n;
     if !room(bytes.len(), o, n) {
         return Moved {
@@ -53,20 +54,18 @@ pub fn move_name(tokens: Tokens, bytes: &mut [u8], named: bool, j: usize, o: usi
     }
 }
 
-// Moves the texts of the parts from `first` up to `end`, if there are any, to the bytes from `o` on. Answers the place behind them.
+// Moves the texts of an expression's parts, if there is one, to the bytes from `o` on. Answers the place behind them.
 pub fn move_texts(
     text: &[u8],
     cells: &mut [u32],
     bytes: &mut [u8],
-    first: usize,
-    end: usize,
+    expression: Option<Extent>,
     o: usize,
 ) -> usize
-    ensures { MovesTexts text.now cells.old cells.new bytes.old bytes.new first end o result }
+    ensures { MovesTexts text.now cells.old cells.new bytes.old bytes.new expression o result }
 {
-    if end == 0 {
-        o
-    } else {
-        gather(text, cells, first, end, bytes, o)
+    match expression {
+        Some(e) => gather(text, cells, e.first, e.end, bytes, o),
+        None => o,
     }
 }

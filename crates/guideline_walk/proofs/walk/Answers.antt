@@ -1,7 +1,5 @@
 -- `walk`: each turn passes a token at least, and its row is written behind those before.
-use Rattle.std.proofs.Common.{refl, sym, ◌∙◌, arith}
-use borrow.Author.Tests.{not-true, not-false}
-use Rattle.paper_expressions.proofs.Laws.Tests.{contra}
+use Rattle.std.proofs.Common.{refl, arith}
 use Rattle.guideline_walk.specs.TotalLaws.{tallied_none, bound_small, bound_next}
 use Rattle.guideline_walk.specs.LoopLaws.{upto_begin, step_ok, next_turn, upto_end}
 use Rattle.guideline_walk.proofs.walk.Goals as goal

@@ -13,8 +13,7 @@ returns-then-not-e c =
     }
 
 pub returns : goal.returns
-returns c =
-    rw c.on.ensures (record {
-      onward = read_went _ c.requires.0 c.requires.1 (c.read-e.ensures.onward (not-false _ c.if-not-e.false)) refl (omega arith);
-      done = λ w r m rs f x. assignment_gives f _ _ _ c.place.ensures c.place-2.ensures c.read-e.ensures c.large.ensures x;
-    })
+returns c = rw c.label.ensures (record {
+  onward = read_went _ c.requires.0 c.requires.1 (c.read-e.ensures.onward (not-false _ c.if-not-e.false)) refl (omega arith);
+  done = λ w r m rs f x. assignment_gives f _ _ _ refl c.place.ensures c.read-e.ensures c.large.ensures x;
+})

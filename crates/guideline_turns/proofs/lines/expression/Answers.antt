@@ -20,8 +20,7 @@ returns-then-tokens-n c =
     }
 
 pub returns : goal.returns
-returns c =
-    rw c.on.ensures (record {
-      onward = read_went _ c.requires.0 c.requires.1 (c.read-e.ensures.onward (not-false _ c.if-not-e.false)) refl (omega arith);
-      done = λ w r m rs f x. expression_gives f _ _ _ _ c.kind_at.ensures c.place.ensures c.place-2.ensures c.read-e.ensures c.large.ensures x;
-    })
+returns c = record {
+  onward = read_went _ c.requires.0 c.requires.1 (c.read-e.ensures.onward (not-false _ c.if-not-e.false)) refl (omega arith);
+  done = λ w r m rs f x. expression_gives f _ _ _ _ c.kind_at.ensures c.place.ensures c.place-2.ensures c.read-e.ensures c.large.ensures x;
+}
