@@ -59,38 +59,26 @@ impl Entry {
     pub fn place(self) -> usize
         ensures { result ≡ place_in self.name }
     {
-        match self.name {
-            Some(name) => name.place,
-            None => 0,
-        }
+        self.name.map_or(0, |name| name.place)
     }
 
     // Of its expression the first part, the one behind the last, and where it starts; 0 if it has none.
     pub fn first(self) -> usize
         ensures { result ≡ first_in self.expression }
     {
-        match self.expression {
-            Some(e) => e.first,
-            None => 0,
-        }
+        self.expression.map_or(0, |e| e.first)
     }
 
     pub fn end(self) -> usize
         ensures { result ≡ end_in self.expression }
     {
-        match self.expression {
-            Some(e) => e.end,
-            None => 0,
-        }
+        self.expression.map_or(0, |e| e.end)
     }
 
     pub fn start(self) -> usize
         ensures { result ≡ start_in self.expression }
     {
-        match self.expression {
-            Some(e) => e.start,
-            None => 0,
-        }
+        self.expression.map_or(0, |e| e.start)
     }
 }
 

@@ -25,20 +25,14 @@ fn least(some: bool, place: usize, start: usize) -> usize
 fn parts_then(used: usize, x: Option<Extent>) -> usize
     ensures { result ≡ then_parts used x }
 {
-    match x {
-        Some(e) => e.end,
-        None => used,
-    }
+    x.map_or(used, |e| e.end)
 }
 
 // Whether an expression is large.
 fn large(x: Option<Extent>) -> bool
     ensures { result ≡ large_in x }
 {
-    match x {
-        Some(e) => e.large,
-        None => false,
-    }
+    x.is_some_and(|e| e.large)
 }
 
 // The smallest place of a large expression, with that of the row besides.
