@@ -1,5 +1,5 @@
 -- What the turns have to do: where the next one stands, and what its row says. Definitions only.
-use Rattle.std.specs.Prelude.{ℕ, ◌+◌, ◌*◌, ◌≤◌, ◌<◌, ◌≡◌, Bool, true, false, cond, ◌⊎◌, List, [], ◌∷◌, eqb, length, Option as Maybe, None, Some, IfSome, IsSomeAnd}
+use Rattle.std.specs.Prelude.{ℕ, ◌+◌, ◌*◌, ◌≤◌, ◌<◌, ◌≡◌, Bool, true, false, ◌⊎◌, List, [], ◌∷◌, length, Option as Maybe, None, Some, IfSome, IsSomeAnd}
 use Rattle.std.proofs.Math.Option.{Option, none, some}
 use Rattle.paper_expressions.specs.Limits.{list_limit}
 use Rattle.paper_guideline.specs.Limits.{guideline_limit, token_limit, part_limit, depth_limit}
@@ -16,13 +16,17 @@ use Rattle.guideline_rows.specs.Brackets.{Fine}
 use Rattle.guideline_rows.specs.Flat
 use Flat.{Mode, outside, front, behind, Shape, shape, Turn}
 use Flat.{task_line, data_lines, expression_line, name_line, answer_line, constraint_line, postcondition_word, end_line, opening, assignment_there, closing, going_on, finish}
+use Rattle.guideline_turns.specs.declared.Mode.{Mode as Begins}
+use Rattle.guideline_turns.specs.declared.Mode.TheVariants.{Row as AtRow, Before, Behind}
 use Rattle.guideline_turns.specs.declared.Label.{Label}
 use Rattle.guideline_turns.specs.declared.Extent.{Extent}
 use Rattle.guideline_turns.specs.declared.Entry.{Entry}
 use Rattle.guideline_turns.specs.declared.Passed.{Passed}
 
-abbrev pub mode_of : ℕ → Mode
-mode_of m = cond (eqb m 0) outside (cond (eqb m 1) front behind)
+abbrev pub mode_of : Begins → Mode
+mode_of AtRow = outside
+mode_of Before = front
+mode_of Behind = behind
 
 -- the letter of a shape, for lines
 abbrev pub letter : Shape → ℕ
@@ -41,7 +45,7 @@ letter going_on = 46
 letter finish = 46
 
 -- on to a token, with no row
-abbrev pub onto : ℕ → ℕ → Passed
+abbrev pub onto : ℕ → Begins → Passed
 onto n m = record { next = n; mode = m; row = None }
 
 abbrev pub IsLarge : ℕ → ℕ → Bool → Type 0

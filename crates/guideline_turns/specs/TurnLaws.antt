@@ -31,6 +31,7 @@ use Flat.{a_task_line, some_data_lines, an_expression_line, a_name_line, an_answ
 use Rattle.guideline_rows.specs.FlatLaws.{line_ends}
 use Rattle.guideline_rows.specs.Flags.{Spelt, Answers, Declares}
 use Rattle.guideline_rows.specs.Brackets.{two_fine}
+use Rattle.guideline_turns.specs.declared.Mode.TheVariants.{Row as AtRow, Before, Behind}
 use Rattle.guideline_turns.specs.declared.Passed.{Passed}
 use Rattle.guideline_turns.specs.Made.{NameAt, Sound, Sized, IsLarge, Gives, Fair, Went, Passes, Steps, Plain, letter, mode_of, onto, parts_then}
 
@@ -102,7 +103,7 @@ word_at s e = e ∙ sym (stand_here s).place
 
 module _ {c : Source} {p u : ℕ} {k : List ℕ} where
   pub task_gives : {w r : List Token} {m : Mode} {rs : List Row} → Fair c p w → (n q : ℕ) → n ≡ kind_at c.kinds p → q ≡ get_or c.places (p + 2) 0 → Turn task_line w r m rs
-      → Gives c k k u (record { next = p + 4; mode = 0; row = Some (record { kind = n; word = 0; name = Some (record { token = p + 2; place = q }); expression = None; flag = 0 }) }) m r rs
+      → Gives c k k u (record { next = p + 4; mode = AtRow; row = Some (record { kind = n; word = 0; name = Some (record { token = p + 2; place = q }); expression = None; flag = 0 }) }) m r rs
   task_gives f n q a b (a_task_line h i) = record {
     stand = four_on f.stand;
     mode = refl;
@@ -123,7 +124,7 @@ module _ {c : Source} {p u : ℕ} {k : List ℕ} where
   }
 
   pub data_gives : {w r : List Token} {m : Mode} {rs : List Row} → Fair c p w → (q d : ℕ) → q ≡ get_or c.places (p + 2) 0 → Declares c.text c.places c.lengths (p + 6) d → Turn data_lines w r m rs
-      → Gives c k k u (record { next = p + 8; mode = 0; row = Some (record { kind = 18; word = 0; name = Some (record { token = p + 2; place = q }); expression = None; flag = d }) }) m r rs
+      → Gives c k k u (record { next = p + 8; mode = AtRow; row = Some (record { kind = 18; word = 0; name = Some (record { token = p + 2; place = q }); expression = None; flag = d }) }) m r rs
   data_gives f q d b e (some_data_lines {k = t} {x = x} i y) = record {
     stand = moved (omega arith) (four_on (four_on f.stand));
     mode = refl;
@@ -144,7 +145,7 @@ module _ {c : Source} {p u : ℕ} {k : List ℕ} where
   }
 
   pub name_gives : {w r : List Token} {m : Mode} {rs : List Row} → Fair c p w → (n o q : ℕ) → n ≡ kind_at c.kinds p → o ≡ get_or c.places p 0 → q ≡ get_or c.places (p + 2) 0 → Turn name_line w r m rs
-      → Gives c k k u (record { next = p + 4; mode = 0; row = Some (record { kind = n; word = o; name = Some (record { token = p + 2; place = q }); expression = None; flag = 0 }) }) m r rs
+      → Gives c k k u (record { next = p + 4; mode = AtRow; row = Some (record { kind = n; word = o; name = Some (record { token = p + 2; place = q }); expression = None; flag = 0 }) }) m r rs
   name_gives f n o q a v b (a_name_line h i) = record {
     stand = four_on f.stand;
     mode = refl;
@@ -165,7 +166,7 @@ module _ {c : Source} {p u : ℕ} {k : List ℕ} where
   }
 
   pub answer_gives : {w r : List Token} {m : Mode} {rs : List Row} → Fair c p w → (n o d : ℕ) → n ≡ kind_at c.kinds p → o ≡ get_or c.places p 0 → Answers c.text c.places c.lengths (p + 2) d → Turn answer_line w r m rs
-      → Gives c k k u (record { next = p + 4; mode = 0; row = Some (record { kind = n; word = o; name = None; expression = None; flag = d }) }) m r rs
+      → Gives c k k u (record { next = p + 4; mode = AtRow; row = Some (record { kind = n; word = o; name = None; expression = None; flag = d }) }) m r rs
   answer_gives f n o d a v e (an_answer_line {y = y} {b = b} h z) = record {
     stand = four_on f.stand;
     mode = refl;
@@ -186,7 +187,7 @@ module _ {c : Source} {p u : ℕ} {k : List ℕ} where
   }
 
   pub constraint_gives : {w r : List Token} {m : Mode} {rs : List Row} → Fair c p w → (o q : ℕ) → o ≡ get_or c.places p 0 → q ≡ get_or c.places (p + 4) 0 → Turn constraint_line w r m rs
-      → Gives c k k u (record { next = p + 7; mode = 0; row = Some (record { kind = 57; word = o; name = Some (record { token = p + 4; place = q }); expression = None; flag = 0 }) }) m r rs
+      → Gives c k k u (record { next = p + 7; mode = AtRow; row = Some (record { kind = 57; word = o; name = Some (record { token = p + 4; place = q }); expression = None; flag = 0 }) }) m r rs
   constraint_gives f o q v b (a_constraint_line i) = record {
     stand = moved (omega arith) (three_on (four_on f.stand));
     mode = refl;
@@ -207,7 +208,7 @@ module _ {c : Source} {p u : ℕ} {k : List ℕ} where
   }
 
   pub postcondition_gives : {w r : List Token} {m : Mode} {rs : List Row} → Fair c p w → (o : ℕ) → o ≡ get_or c.places p 0 → Turn postcondition_word w r m rs
-      → Gives c k k u (record { next = p + 2; mode = 1; row = Some (record { kind = 50; word = o; name = None; expression = None; flag = 0 }) }) m r rs
+      → Gives c k k u (record { next = p + 2; mode = Before; row = Some (record { kind = 50; word = o; name = None; expression = None; flag = 0 }) }) m r rs
   postcondition_gives f o v a_postcondition_word = record {
     stand = two_on f.stand;
     mode = refl;
@@ -246,7 +247,7 @@ module _ {c : Source} {k l : List ℕ} {p u : ℕ} {e : Built} where
 
   pub expression_gives : {w r : List Token} {m : Mode} {rs : List Row} → Fair c p w → (n o q : ℕ) (b : Bool) → n ≡ kind_at c.kinds p → o ≡ get_or c.places p 0 → q ≡ get_or c.places (p + 2) 0
       → Reads anywhere c k l (p + 2) u e → IsLarge e.depth e.longest b → Turn expression_line w r m rs
-      → Gives c k l u (record { next = e.next + 1; mode = 0; row = Some (record { kind = n; word = o; name = None; expression = Some (record { first = u; end = e.used; start = q; large = b }); flag = 0 }) }) m r rs
+      → Gives c k l u (record { next = e.next + 1; mode = AtRow; row = Some (record { kind = n; word = o; name = None; expression = Some (record { first = u; end = e.used; start = q; large = b }); flag = 0 }) }) m r rs
   expression_gives f n o q b a v j x lg (an_expression_line {x = t} {s = s} {w = w} {r = r} {e = y} h i z sc) =
       let g = two_fine f.stand f.fine in
       let d = x.done g.count (t ∷ w) (s ∷ r) y (two_on f.stand) z (line_ends r sc) g.all in
@@ -276,7 +277,7 @@ module _ {c : Source} {k l : List ℕ} {p u : ℕ} {e : Built} where
 
   pub assignment_gives : {w r : List Token} {m : Mode} {rs : List Row} → Fair c p w → (o q : ℕ) (b : Bool) → o ≡ get_or c.places p 0 → q ≡ get_or c.places (p + 2) 0
       → Reads assigned c k l (p + 2) u e → IsLarge e.depth e.longest b → Turn assignment_there w r m rs
-      → Gives c k l u (record { next = e.next; mode = 2; row = Some (record { kind = 81; word = 0; name = Some (record { token = p; place = o }); expression = Some (record { first = u; end = e.used; start = q; large = b }); flag = 0 }) }) m r rs
+      → Gives c k l u (record { next = e.next; mode = Behind; row = Some (record { kind = 81; word = 0; name = Some (record { token = p; place = o }); expression = Some (record { first = u; end = e.used; start = q; large = b }); flag = 0 }) }) m r rs
   assignment_gives f o q b v j x lg (assigns {x = t} {w = w} {r = r} {e = y} h z i) =
       let g = two_fine f.stand f.fine in
       let d = x.done g.count (t ∷ w) r y (two_on f.stand) z i g.all in
@@ -302,35 +303,35 @@ module _ {c : Source} {k l : List ℕ} {p u : ℕ} {e : Built} where
 -- ---- turns with none
 
 module _ {c : Source} {p : ℕ} (near : p ≤ token_limit) where
-  end_gives : {k : List ℕ} {u : ℕ} {w r : List Token} {m : Mode} {rs : List Row} → Fair c p w → Turn end_line w r m rs → Gives c k k u (onto (p + 3) 0) m r rs
+  end_gives : {k : List ℕ} {u : ℕ} {w r : List Token} {m : Mode} {rs : List Row} → Fair c p w → Turn end_line w r m rs → Gives c k k u (onto (p + 3) AtRow) m r rs
   end_gives f an_end_line = record { stand = three_on f.stand; mode = refl; rows = tt }
 
-  pub end_passes : Plain end_line c p (onto (p + 3) 0)
-  end_passes k u h = record { onward = plain_went k (onto (p + 3) 0) near (omega arith) refl h; done = λ w r m rs f x. end_gives f x }
+  pub end_passes : Plain end_line c p (onto (p + 3) AtRow)
+  end_passes k u h = record { onward = plain_went k (onto (p + 3) AtRow) near (omega arith) refl h; done = λ w r m rs f x. end_gives f x }
 
-  opening_gives : {k : List ℕ} {u : ℕ} {w r : List Token} {m : Mode} {rs : List Row} → Fair c p w → Turn opening w r m rs → Gives c k k u (onto (p + 1) 1) m r rs
+  opening_gives : {k : List ℕ} {u : ℕ} {w r : List Token} {m : Mode} {rs : List Row} → Fair c p w → Turn opening w r m rs → Gives c k k u (onto (p + 1) Before) m r rs
   opening_gives f opens = record { stand = stand_next f.stand; mode = refl; rows = tt }
 
-  pub opening_passes : Plain opening c p (onto (p + 1) 1)
-  opening_passes k u h = record { onward = plain_went k (onto (p + 1) 1) near (omega arith) refl h; done = λ w r m rs f x. opening_gives f x }
+  pub opening_passes : Plain opening c p (onto (p + 1) Before)
+  opening_passes k u h = record { onward = plain_went k (onto (p + 1) Before) near (omega arith) refl h; done = λ w r m rs f x. opening_gives f x }
 
-  closing_gives : {k : List ℕ} {u : ℕ} {w r : List Token} {m : Mode} {rs : List Row} → Fair c p w → Turn closing w r m rs → Gives c k k u (onto (p + 1) 2) m r rs
+  closing_gives : {k : List ℕ} {u : ℕ} {w r : List Token} {m : Mode} {rs : List Row} → Fair c p w → Turn closing w r m rs → Gives c k k u (onto (p + 1) Behind) m r rs
   closing_gives f closes = record { stand = stand_next f.stand; mode = refl; rows = tt }
 
-  pub closing_passes : Plain closing c p (onto (p + 1) 2)
-  closing_passes k u h = record { onward = plain_went k (onto (p + 1) 2) near (omega arith) refl h; done = λ w r m rs f x. closing_gives f x }
+  pub closing_passes : Plain closing c p (onto (p + 1) Behind)
+  closing_passes k u h = record { onward = plain_went k (onto (p + 1) Behind) near (omega arith) refl h; done = λ w r m rs f x. closing_gives f x }
 
-  going_on_gives : {k : List ℕ} {u : ℕ} {w r : List Token} {m : Mode} {rs : List Row} → Fair c p w → Turn going_on w r m rs → Gives c k k u (onto (p + 1) 1) m r rs
+  going_on_gives : {k : List ℕ} {u : ℕ} {w r : List Token} {m : Mode} {rs : List Row} → Fair c p w → Turn going_on w r m rs → Gives c k k u (onto (p + 1) Before) m r rs
   going_on_gives f goes_on = record { stand = stand_next f.stand; mode = refl; rows = tt }
 
-  pub going_on_passes : Plain going_on c p (onto (p + 1) 1)
-  going_on_passes k u h = record { onward = plain_went k (onto (p + 1) 1) near (omega arith) refl h; done = λ w r m rs f x. going_on_gives f x }
+  pub going_on_passes : Plain going_on c p (onto (p + 1) Before)
+  going_on_passes k u h = record { onward = plain_went k (onto (p + 1) Before) near (omega arith) refl h; done = λ w r m rs f x. going_on_gives f x }
 
-  finish_gives : {k : List ℕ} {u : ℕ} {w r : List Token} {m : Mode} {rs : List Row} → Fair c p w → Turn finish w r m rs → Gives c k k u (onto (p + 1) 0) m r rs
+  finish_gives : {k : List ℕ} {u : ℕ} {w r : List Token} {m : Mode} {rs : List Row} → Fair c p w → Turn finish w r m rs → Gives c k k u (onto (p + 1) AtRow) m r rs
   finish_gives f finishes = record { stand = stand_next f.stand; mode = refl; rows = tt }
 
-  pub finish_passes : Plain finish c p (onto (p + 1) 0)
-  finish_passes k u h = record { onward = plain_went k (onto (p + 1) 0) near (omega arith) refl h; done = λ w r m rs f x. finish_gives f x }
+  pub finish_passes : Plain finish c p (onto (p + 1) AtRow)
+  finish_passes k u h = record { onward = plain_went k (onto (p + 1) AtRow) near (omega arith) refl h; done = λ w r m rs f x. finish_gives f x }
 
 -- ---- turns by their first token
 
@@ -388,8 +389,8 @@ decoded k =
 pub told : (k : ℕ) {s : ℕ} {z : Shape} → s ≡ letter (shape_outside k) → of_letter s ≡ z → shape_outside k ≡ z
 told k e h = sym (decoded k) ∙ ap of_letter (sym e) ∙ h
 
-pub behind_mode : (m : ℕ) → ¬ (m ≡ 0) → ¬ (m ≡ 1) → mode_of m ≡ behind
-behind_mode m a b = rw (ne_eqb m 0 a, ne_eqb m 1 b)
+pub behind_mode : mode_of Behind ≡ behind
+behind_mode = refl
 
 pub line_end : (x : ℕ) → ¬ (x ≡ 116) → ¬ (x ≡ 100) → ¬ (x ≡ 101) → ¬ (x ≡ 110) → ¬ (x ≡ 121) → ¬ (x ≡ 99) → ¬ (x ≡ 112) → of_letter x ≡ end_line
 line_end x a b d e f g h = rw (ne_eqb x 116 a, ne_eqb x 100 b, ne_eqb x 101 d, ne_eqb x 110 e, ne_eqb x 121 f, ne_eqb x 99 g, ne_eqb x 112 h)

@@ -15,15 +15,11 @@ use limits::TokenList;
 use terminals::Terminal;
 
 // Where a turn begins: before a row, or in a postcondition before or behind an assignment.
-#[derive(Drop)]
-pub struct Mode;
-
-impl Mode {
-    pub const ROW: u8 = 0;
-
-    pub const BEFORE: u8 = 1;
-
-    pub const BEHIND: u8 = 2;
+#[derive(Clone, Copy)]
+pub enum Mode {
+    Row,
+    Before,
+    Behind,
 }
 
 // A name: the token that it is, and its place.
@@ -88,12 +84,12 @@ pub struct Passed {
     // the token behind it
     pub next: usize,
     // where the next turn begins
-    pub mode: u8,
+    pub mode: Mode,
     pub row: Option<Entry>,
 }
 
 // On to `next`, with no row.
-fn on(next: usize, mode: u8) -> Passed
+fn on(next: usize, mode: Mode) -> Passed
     ensures { result ≡ onto next mode }
 {
     Passed {
@@ -109,7 +105,7 @@ fn before(tokens: Tokens, cells: &mut [u32], p: usize, u: usize) -> Option<Passe
     ensures { Steps front (source_of tokens.entry) cells.old cells.new p u result }
 {
     if kind_at(tokens.kinds, p) == Terminal::LEFT_PARENTHESIS {
-        Some(on(p + 1, Mode::BEFORE))
+        Some(on(p + 1, Mode::Before))
     } else {
         lines::assignment(tokens, cells, p, u)
     }
@@ -121,15 +117,15 @@ fn after(tokens: Tokens, p: usize) -> Passed
     ensures { PlainSteps behind (source_of tokens.entry) p result }
 {
     let mode = match kind_at(tokens.kinds, p) {
-        Terminal::RIGHT_PARENTHESIS => Mode::BEHIND,
-        Terminal::AND => Mode::BEFORE,
-        _ => Mode::ROW,
+        Terminal::RIGHT_PARENTHESIS => Mode::Behind,
+        Terminal::AND => Mode::Before,
+        _ => Mode::Row,
     };
     on(p + 1, mode)
 }
 
 // One turn, from the token `p` on. The parts of an expression are written from the part `u` on, as far as there is room.
-pub fn step(tokens: Tokens, cells: &mut [u32], p: usize, mode: u8, u: usize) -> Option<Passed>
+pub fn step(tokens: Tokens, cells: &mut [u32], p: usize, mode: Mode, u: usize) -> Option<Passed>
     requires { u ≤ p }
     ensures { Steps (mode_of mode) (source_of tokens.entry) cells.old cells.new p u result }
 {
@@ -137,8 +133,8 @@ pub fn step(tokens: Tokens, cells: &mut [u32], p: usize, mode: u8, u: usize) -> 
         return None;
     }
     match mode {
-        Mode::ROW => lines::line(tokens, cells, p, u),
-        Mode::BEFORE => before(tokens, cells, p, u),
-        _ => Some(after(tokens, p)),
+        Mode::Row => lines::line(tokens, cells, p, u),
+        Mode::Before => before(tokens, cells, p, u),
+        Mode::Behind => Some(after(tokens, p)),
     }
 }

@@ -54,7 +54,7 @@ fn task(tokens: Tokens, p: usize) -> Passed
 {
     Passed {
         next: p + 4,
-        mode: Mode::ROW,
+        mode: Mode::Row,
         row: Some(Entry {
             kind: kind_at(tokens.kinds, p),
             word: 0,
@@ -72,7 +72,7 @@ fn data_item(tokens: Tokens, p: usize) -> Passed
 {
     Passed {
         next: p + 8,
-        mode: Mode::ROW,
+        mode: Mode::Row,
         row: Some(Entry {
             kind: Terminal::DATA,
             word: 0,
@@ -107,7 +107,7 @@ fn expression(tokens: Tokens, cells: &mut [u32], p: usize, u: usize) -> Option<P
     }
     Some(Passed {
         next: n + 1,
-        mode: Mode::ROW,
+        mode: Mode::Row,
         row: Some(Entry {
             kind: kind_at(tokens.kinds, p),
             word: tokens.place(p),
@@ -130,7 +130,7 @@ fn name(tokens: Tokens, p: usize) -> Passed
 {
     Passed {
         next: p + 4,
-        mode: Mode::ROW,
+        mode: Mode::Row,
         row: Some(Entry {
             kind: kind_at(tokens.kinds, p),
             word: tokens.place(p),
@@ -148,7 +148,7 @@ fn answer(tokens: Tokens, p: usize) -> Passed
 {
     Passed {
         next: p + 4,
-        mode: Mode::ROW,
+        mode: Mode::Row,
         row: Some(Entry {
             kind: kind_at(tokens.kinds, p),
             word: tokens.place(p),
@@ -166,7 +166,7 @@ fn constraint(tokens: Tokens, p: usize) -> Passed
 {
     Passed {
         next: p + 7,
-        mode: Mode::ROW,
+        mode: Mode::Row,
         row: Some(Entry {
             kind: Terminal::SCHEDULE_CONSTRAINT,
             word: tokens.place(p),
@@ -184,7 +184,7 @@ fn postcondition(tokens: Tokens, p: usize) -> Passed
 {
     Passed {
         next: p + 2,
-        mode: Mode::BEFORE,
+        mode: Mode::Before,
         row: Some(Entry {
             kind: Terminal::POSTCONDITION,
             word: tokens.place(p),
@@ -215,7 +215,7 @@ pub fn assignment(tokens: Tokens, cells: &mut [u32], p: usize, u: usize) -> Opti
     }
     Some(Passed {
         next: e.next,
-        mode: Mode::BEHIND,
+        mode: Mode::Behind,
         row: Some(Entry {
             kind: Terminal::EQUALS,
             word: 0,
@@ -244,6 +244,6 @@ pub fn line(tokens: Tokens, cells: &mut [u32], p: usize, u: usize) -> Option<Pas
         b'y' => Some(answer(tokens, p)),
         b'c' => Some(constraint(tokens, p)),
         b'p' => Some(postcondition(tokens, p)),
-        _ => Some(on(p + 3, Mode::ROW)),
+        _ => Some(on(p + 3, Mode::Row)),
     }
 }

@@ -22,6 +22,8 @@ use Flat.{Mode, Shape, Turn, Flat, at_end, turn}
 use Rattle.guideline_rows.specs.FlatLaws.{structure_flat}
 use Rattle.guideline_rows.specs.Brackets.{turn_fine}
 use Rattle.guideline_turns.specs.declared.Entry.{Entry}
+use Rattle.guideline_turns.specs.declared.Mode.{Mode as Begins}
+use Rattle.guideline_turns.specs.declared.Mode.TheVariants.{Row as AtRow}
 use Rattle.guideline_turns.specs.declared.Passed.{Passed}
 use Rattle.guideline_turns.specs.Made.{Told, Tells, Gives, Fair, parts_then, Went, Steps, mode_of}
 use Rattle.guideline_walk.specs.declared.Totals.{Totals}
@@ -29,7 +31,7 @@ use Rattle.guideline_walk.specs.Made.{Tallied, Roomy, Laid, Given, Walked, Write
 use Rattle.guideline_walk.specs.TotalLaws.{then_is, tallied_more}
 
 -- the tables x, k, b before, and y, l, d now
-pub record Upto (c : Source) (x y k l b d : List ℕ) (p m : ℕ) (w : Totals) (rows : List Row) : Type 0 where
+pub record Upto (c : Source) (x y k l b d : List ℕ) (p : ℕ) (m : Begins) (w : Totals) (rows : List Row) : Type 0 where
   pub ok : w.ok ≡ true
   pub passed : List Row
   pub left : List Row
@@ -40,7 +42,7 @@ pub record Upto (c : Source) (x y k l b d : List ℕ) (p m : ℕ) (w : Totals) (
   pub fair : Fair c p tokens
   pub flat : Flat (mode_of m) tokens left
 
-pub upto_begin : {c : Source} {x k b : List ℕ} {ts : List Token} {g : List TopLevel} {w : Totals} → w.ok ≡ true → w.bytes ≡ 0 → Tallied [] w → Given c ts g → Upto c x x k k b b 0 0 w (flatten g)
+pub upto_begin : {c : Source} {x k b : List ℕ} {ts : List Token} {g : List TopLevel} {w : Totals} → w.ok ≡ true → w.bytes ≡ 0 → Tallied [] w → Given c ts g → Upto c x x k k b b 0 AtRow w (flatten g)
 upto_begin {c} {x} {k} {b} {ts} {g} o z t h = record {
   ok = o;
   passed = [];
@@ -162,7 +164,7 @@ module _ {c : Source} {x y k l b d : List ℕ} {rows passed : List Row} {w : Tot
 
 -- ---- one turn
 
-module _ {c : Source} {x y k l b d : List ℕ} {p m : ℕ} {w : Totals} {rows : List Row} (u : Upto c x y k l b d p m w rows) where
+module _ {c : Source} {x y k l b d : List ℕ} {p : ℕ} {m : Begins} {w : Totals} {rows : List Row} (u : Upto c x y k l b d p m w rows) where
   module _ (inside : p < length c.kinds) where
     abbrev now : Turning (mode_of m) u.tokens u.left
     now = turning u.flat (let l = stand_length u.fair.stand in omega arith)

@@ -99,7 +99,7 @@ pub fn walk(
         place: 0,
     };
     let mut p = 0;
-    let mut mode = Mode::ROW;
+    let mut mode = Mode::Row;
     while p < kinds.len() {
         let Some(t) = step(tokens, cells, p, mode, w.parts) else {
             return stuck();
