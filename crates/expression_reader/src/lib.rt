@@ -5,14 +5,14 @@
 mod single;
 
 ghost use Rattle.std.specs.Prelude.{◌≡◌, ◌≤◌};
-ghost use Rattle.leaves.specs.Source.{source};
+ghost use Rattle.leaves.specs.Source.{source, source_of};
 ghost use Rattle.expression_steps.specs.Levels.{where_of};
 ghost use Rattle.expression_steps.specs.Made.{ReadsOperand, ReadsExpression, ReadsList};
 ghost use Rattle.expression_reader.specs.Reads.{Reads};
 
 use expression_steps::operators::{Operand, WAITING};
 use expression_steps::{Built, deeper, kind_at, operators, refused};
-use leaves::Word;
+use leaves::{Tokens, Word};
 use limits::Brackets;
 use parts::Code;
 use terminals::Terminal;
@@ -21,31 +21,22 @@ const LIST: u8 = Code::LIST as u8;
 
 // What holds tightest: a single token, or what stands in brackets.
 #[cycle(expression_list_operand_primary)]
-fn primary(
-    text: &[u8],
-    kinds: &[u8],
-    places: &[usize],
-    lengths: &[usize],
-    cells: &mut [u32],
-    p: usize,
-    u: usize,
-    d: usize,
-) -> Built
+fn primary(tokens: Tokens, cells: &mut [u32], p: usize, u: usize, d: usize) -> Built
     requires { u ≤ p }
-    ensures { ReadsOperand 8 (source text.now kinds.now places.now lengths.now) cells.old cells.new p u d result }
+    ensures { ReadsOperand 8 (source_of tokens.entry) cells.old cells.new p u d result }
 {
-    let k = kind_at(kinds, p);
+    let k = kind_at(tokens.kinds, p);
     if k == Terminal::LEFT_PARENTHESIS {
         if d == 0 {
             return refused();
         }
-        let e = expression(text, kinds, places, lengths, cells, p + 1, u, d - 1, false);
+        let e = expression(tokens, cells, p + 1, u, d - 1, false);
         if !e.ok {
             return refused();
         }
         let n = e.next;
-        if kind_at(kinds, n) == Terminal::RIGHT_PARENTHESIS {
-            return single::rounded(kinds, n, e);
+        if kind_at(tokens.kinds, n) == Terminal::RIGHT_PARENTHESIS {
+            return single::rounded(tokens.kinds, n, e);
         }
         return refused();
     }
@@ -57,29 +48,15 @@ fn primary(
             kind: LIST,
             load: 0,
         };
-        return list(
-            text,
-            kinds,
-            places,
-            lengths,
-            cells,
-            p + 1,
-            u,
-            d - 1,
-            Terminal::RIGHT_BRACKET,
-            h,
-        );
+        return list(tokens, cells, p + 1, u, d - 1, Terminal::RIGHT_BRACKET, h);
     }
-    if single::calls(kinds, p) {
+    if single::calls(tokens.kinds, p) {
         if d == 0 {
             return refused();
         }
-        let h = single::head_at(text, places, lengths, p);
+        let h = single::head_at(tokens, p);
         return list(
-            text,
-            kinds,
-            places,
-            lengths,
+            tokens,
             cells,
             p + 2,
             u,
@@ -88,26 +65,17 @@ fn primary(
             h,
         );
     }
-    single::single(text, kinds, places, lengths, cells, p, u)
+    single::single(tokens, cells, p, u)
 }
 
 // Minuses, and what they stand before.
 #[cycle(expression_list_operand_primary)]
-fn operand(
-    text: &[u8],
-    kinds: &[u8],
-    places: &[usize],
-    lengths: &[usize],
-    cells: &mut [u32],
-    p: usize,
-    u: usize,
-    d: usize,
-) -> Built
+fn operand(tokens: Tokens, cells: &mut [u32], p: usize, u: usize, d: usize) -> Built
     requires { u ≤ p }
-    ensures { ReadsOperand 7 (source text.now kinds.now places.now lengths.now) cells.old cells.new p u d result }
+    ensures { ReadsOperand 7 (source_of tokens.entry) cells.old cells.new p u d result }
 {
-    let q = expression_steps::minuses(kinds, p);
-    let e = primary(text, kinds, places, lengths, cells, q, u, d);
+    let q = expression_steps::minuses(tokens.kinds, p);
+    let e = primary(tokens, cells, q, u, d);
     if !e.ok {
         return refused();
     }
@@ -117,7 +85,7 @@ fn operand(
         ok: true,
         next: e.next,
         used: e.used + m,
-        depth: deeper(e.depth, m, kinds.len()),
+        depth: deeper(e.depth, m, tokens.kinds.len()),
         longest: e.longest,
     }
 }
@@ -125,10 +93,7 @@ fn operand(
 // The elements between brackets, up to the token that closes them, and the part that they are operands of.
 #[cycle(expression_list_operand_primary)]
 fn list(
-    text: &[u8],
-    kinds: &[u8],
-    places: &[usize],
-    lengths: &[usize],
+    tokens: Tokens,
     cells: &mut [u32],
     p: usize,
     u: usize,
@@ -137,7 +102,7 @@ fn list(
     h: Word,
 ) -> Built
     requires { u ≤ p }
-    ensures { ReadsList close h (source text.now kinds.now places.now lengths.now) cells.old cells.new p u d result }
+    ensures { ReadsList close h (source_of tokens.entry) cells.old cells.new p u d result }
 {
     let mut m = Built {
         ok: true,
@@ -146,22 +111,22 @@ fn list(
         depth: 0,
         longest: 0,
     };
-    if kind_at(kinds, p) == close {
-        return single::closed(kinds, cells, u, m, 0, close, h);
+    if kind_at(tokens.kinds, p) == close {
+        return single::closed(tokens.kinds, cells, u, m, 0, close, h);
     }
     let mut q = p;
     let mut n = 0;
     loop {
-        let e = expression(text, kinds, places, lengths, cells, q, m.used, d, false);
+        let e = expression(tokens, cells, q, m.used, d, false);
         if !e.ok {
             return refused();
         }
         let j = e.next;
-        let k = kind_at(kinds, j);
+        let k = kind_at(tokens.kinds, j);
         n += 1;
         m = single::also(m, e);
         if k == close {
-            return single::closed(kinds, cells, u, m, n, close, h);
+            return single::closed(tokens.kinds, cells, u, m, n, close, h);
         }
         if k != Terminal::COMMA {
             return refused();
@@ -173,10 +138,7 @@ fn list(
 // Operands and operators: the operators that wait for their right operand are on a stack, at most one of each level.
 #[cycle(expression_list_operand_primary)]
 fn expression(
-    text: &[u8],
-    kinds: &[u8],
-    places: &[usize],
-    lengths: &[usize],
+    tokens: Tokens,
     cells: &mut [u32],
     p: usize,
     u: usize,
@@ -184,7 +146,7 @@ fn expression(
     assigned: bool,
 ) -> Built
     requires { u ≤ p }
-    ensures { ReadsExpression (where_of assigned) (source text.now kinds.now places.now lengths.now) cells.old cells.new p u d result }
+    ensures { ReadsExpression (where_of assigned) (source_of tokens.entry) cells.old cells.new p u d result }
 {
     let mut ks = [0u8; WAITING];
     let mut fs = [0usize; WAITING];
@@ -194,19 +156,19 @@ fn expression(
     let mut w = u;
     let mut longest = 0;
     loop {
-        let e = operand(text, kinds, places, lengths, cells, q, w, d);
+        let e = operand(tokens, cells, q, w, d);
         if !e.ok {
             return refused();
         }
         let j = e.next;
-        let l = operators::level_at(kinds, j, assigned);
+        let l = operators::level_at(tokens.kinds, j, assigned);
         let o = Operand {
             n,
             from: w,
             used: e.used,
             depth: e.depth,
         };
-        let r = operators::reduce(cells, ks, fs, ds, o, l, kinds.len());
+        let r = operators::reduce(cells, ks, fs, ds, o, l, tokens.kinds.len());
         longest = longest.max(e.longest);
         if l == 0 {
             return Built {
@@ -221,7 +183,7 @@ fn expression(
         if WAITING <= m {
             return refused();
         }
-        ks[m] = kind_at(kinds, j);
+        ks[m] = kind_at(tokens.kinds, j);
         fs[m] = r.from;
         ds[m] = r.depth;
         n = m + 1;
@@ -244,15 +206,11 @@ pub fn read(
     requires { u ≤ from }
     ensures { Reads (where_of assigned) (source text.now kinds.now places.now lengths.now) cells.old cells.new from u result }
 {
-    expression(
+    let tokens = Tokens {
         text,
         kinds,
         places,
         lengths,
-        cells,
-        from,
-        u,
-        Brackets::LIMIT,
-        assigned,
-    )
+    };
+    expression(tokens, cells, from, u, Brackets::LIMIT, assigned)
 }

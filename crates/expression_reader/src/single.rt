@@ -1,56 +1,51 @@
 // Around the cycle: a single token, a functor name, elements, and a bracket that closes.
 ghost use Rattle.std.specs.Prelude.{◌≡◌, true, false, length, ◌≤◌, ◌<◌};
 ghost use Rattle.paper_guideline.specs.Limits.{larger as largerOf};
-ghost use Rattle.leaves.specs.Source.{source};
+ghost use Rattle.leaves.specs.Source.{source_of};
 ghost use Rattle.expression_reader.specs.Single.{SaysAt, SaysHeadAt, ReadsSingle, Calls, Rounds, Also, Closes};
 
 use expression_steps::{Built, deeper, kind_at, put, refused};
-use leaves::Word;
+use leaves::{Tokens, Word};
 use terminals::Terminal;
 
 // The part that the token `p` is by itself.
-fn leaf_at(text: &[u8], kinds: &[u8], places: &[usize], lengths: &[usize], p: usize) -> Word
-    ensures { SaysAt (source text.now kinds.now places.now lengths.now) p result }
+fn leaf_at(tokens: Tokens, p: usize) -> Word
+    ensures { SaysAt (source_of tokens.entry) p result }
 {
-    let at = leaves::cell(places, p);
-    let n = leaves::cell(lengths, p);
-    if leaves::fits(text, at, n) {
-        leaves::leaf(text, parts::byte(kinds, p), at, n)
+    let at = tokens.place(p);
+    let n = tokens.length(p);
+    if leaves::fits(tokens.text, at, n) {
+        leaves::leaf(tokens.text, parts::byte(tokens.kinds, p), at, n)
     } else {
         Word { kind: 0, load: 0 }
     }
 }
 
 // The part of a call whose functor name is the token `p`.
-pub fn head_at(text: &[u8], places: &[usize], lengths: &[usize], p: usize) -> Word
-    ensures { SaysHeadAt text.now places.now lengths.now p result }
+pub fn head_at(tokens: Tokens, p: usize) -> Word
+    ensures { SaysHeadAt tokens.entry.text.now tokens.entry.places.now tokens.entry.lengths.now p result }
 {
-    let at = leaves::cell(places, p);
-    let n = leaves::cell(lengths, p);
-    if leaves::fits(text, at, n) {
-        leaves::head(text, at, n)
+    let at = tokens.place(p);
+    let n = tokens.length(p);
+    if leaves::fits(tokens.text, at, n) {
+        leaves::head(tokens.text, at, n)
     } else {
         Word { kind: 0, load: 0 }
     }
 }
 
 // An atom, a number or a string.
-pub fn single(
-    text: &[u8],
-    kinds: &[u8],
-    places: &[usize],
-    lengths: &[usize],
-    cells: &mut [u32],
-    p: usize,
-    u: usize,
-) -> Built
+pub fn single(tokens: Tokens, cells: &mut [u32], p: usize, u: usize) -> Built
     requires { u ≤ p }
-    ensures { ReadsSingle (source text.now kinds.now places.now lengths.now) cells.old cells.new p u result }
+    ensures { ReadsSingle (source_of tokens.entry) cells.old cells.new p u result }
 {
-    if !matches!(kind_at(kinds, p), Terminal::OTHER_ATOM..=Terminal::STRING) {
+    if !matches!(
+        kind_at(tokens.kinds, p),
+        Terminal::OTHER_ATOM..=Terminal::STRING
+    ) {
         return refused();
     }
-    let w = leaf_at(text, kinds, places, lengths, p);
+    let w = leaf_at(tokens, p);
     put(cells, u, w.kind, 0, u, w.load);
     Built {
         ok: true,

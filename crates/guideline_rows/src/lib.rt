@@ -6,27 +6,28 @@ mod row;
 ghost use Rattle.std.specs.Prelude.{◌≡◌, ◌+◌, ◌≤◌, length, get_or};
 ghost use Rattle.guideline_rows.specs.Flags.{Spells, declared_of, Answers, Declares};
 
+use leaves::Tokens;
 use leaves::names::Span;
 pub use row::{Flag, Kind, Row};
 
 // Where the name of the token `j` stands in the text.
-pub fn spelt(text: &[u8], places: &[usize], lengths: &[usize], j: usize) -> Span
-    ensures { Spells text.now places.now lengths.now j result }
+pub fn spelt(tokens: Tokens, j: usize) -> Span
+    ensures { Spells tokens.entry.text.now tokens.entry.places.now tokens.entry.lengths.now j result }
 {
-    let at = leaves::cell(places, j);
-    let n = leaves::cell(lengths, j);
-    if leaves::fits(text, at, n) {
-        leaves::names::inside(text, at, n)
+    let at = tokens.place(j);
+    let n = tokens.length(j);
+    if leaves::fits(tokens.text, at, n) {
+        leaves::names::inside(tokens.text, at, n)
     } else {
         Span { at: 0, n: 0 }
     }
 }
 
 // Yes or no: they differ in length.
-pub fn answer(text: &[u8], places: &[usize], lengths: &[usize], j: usize) -> u8
-    ensures { Answers text.now places.now lengths.now j result }
+pub fn answer(tokens: Tokens, j: usize) -> u8
+    ensures { Answers tokens.entry.text.now tokens.entry.places.now tokens.entry.lengths.now j result }
 {
-    if spelt(text, places, lengths, j).n == 3 {
+    if spelt(tokens, j).n == 3 {
         Flag::YES
     } else {
         Flag::NO
@@ -55,9 +56,9 @@ fn type_of(text: &[u8], at: usize, n: usize) -> u8
 }
 
 // The number of the declared type that the token `j` names.
-pub fn declared(text: &[u8], places: &[usize], lengths: &[usize], j: usize) -> u8
-    ensures { Declares text.now places.now lengths.now j result }
+pub fn declared(tokens: Tokens, j: usize) -> u8
+    ensures { Declares tokens.entry.text.now tokens.entry.places.now tokens.entry.lengths.now j result }
 {
-    let s = spelt(text, places, lengths, j);
-    type_of(text, s.at, s.n)
+    let s = spelt(tokens, j);
+    type_of(tokens.text, s.at, s.n)
 }

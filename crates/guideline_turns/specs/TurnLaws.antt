@@ -1,8 +1,8 @@
 -- Each turn, by what it passes: where the next one stands, and what its row says. By the tokens that stand in the columns.
-use Rattle.std.specs.Prelude.{ℕ, ◌+◌, ◌*◌, ◌≤◌, ◌<◌, ◌≡◌, refl, Bool, true, false, cond, List, [], ◌∷◌, eqb, get_or, length}
-use Rattle.std.proofs.Common.{sym, ap, subst, ◌∙◌, ⊎_elim, inl, inr, arith, eqb-true, ne_eqb}
+use Rattle.std.specs.Prelude.{ℕ, ◌+◌, ◌*◌, ◌≤◌, ◌<◌, ◌≡◌, refl, Bool, true, false, cond, List, [], ◌∷◌, eqb, get_or, length, Option as Maybe, None, Some}
+use Rattle.std.proofs.Common.{sym, ap, subst, ◌∙◌, ⊎_elim, inl, inr, arith, ne_eqb}
 use Rattle.std.proofs.Math.Option.{none, some}
-use Rattle.paper_expressions.proofs.Laws.Tests.{two, contra}
+use Rattle.paper_expressions.proofs.Laws.Tests.{contra}
 use Rattle.paper_expressions.proofs.Laws.Parentheses.{bare}
 use Rattle.paper_expressions.specs.Expressions.{Expr}
 use Rattle.paper_expressions.specs.Limits.{list_limit}
@@ -31,25 +31,19 @@ use Flat.{a_task_line, some_data_lines, an_expression_line, a_name_line, an_answ
 use Rattle.guideline_rows.specs.FlatLaws.{line_ends}
 use Rattle.guideline_rows.specs.Flags.{Spelt, Answers, Declares}
 use Rattle.guideline_rows.specs.Brackets.{two_fine}
+use Rattle.guideline_turns.specs.declared.Mode.TheVariants.{Row as AtRow, Before, Behind}
 use Rattle.guideline_turns.specs.declared.Passed.{Passed}
-use Rattle.guideline_turns.specs.Made.{NameAt, Sound, Sized, IsLarge, Gives, Fair, Went, Passes, Steps, Plain, letter, mode_of, onto}
+use Rattle.guideline_turns.specs.Made.{NameAt, Sound, Sized, IsLarge, Gives, Fair, Went, Passes, Steps, Plain, letter, mode_of, onto, parts_then}
 
 -- ---- what is passed
 
 -- without an expression no part changes
-pub plain_went : {p u : ℕ} (k : List ℕ) (t : Passed) → p ≤ token_limit → p < t.next → t.end ≡ 0 → u ≤ p → Went k k p u t
-plain_went {p} {u} k t l h e g = let z : cond (eqb t.end 0) u t.end ≡ u = rw e in record { near = l; on = h; few = omega arith; more = omega arith; beside = beside_none _ _ k }
-
-then_is : (u v : ℕ) → u ≤ v → cond (eqb v 0) u v ≡ v
-then_is u v h = ⊎_elim
-    (λ (q : eqb v 0 ≡ true). let z = eqb-true v 0 q in ap (λ (b : Bool). cond b u v) q ∙ omega arith)
-    (λ (q : eqb v 0 ≡ false). ap (λ (b : Bool). cond b u v) q)
-    (two (eqb v 0))
+pub plain_went : {p u : ℕ} (k : List ℕ) (t : Passed) → p ≤ token_limit → p < t.next → parts_then u t.row ≡ u → u ≤ p → Went k k p u t
+plain_went {p} {u} k t l h e g = record { near = l; on = h; few = omega arith; more = omega arith; beside = beside_none _ _ k }
 
 -- with one: its parts are those of the reader
-pub read_went : {k l : List ℕ} {p u : ℕ} {e : Built} (t : Passed) → p ≤ token_limit → u ≤ p → Steps.Went k l (p + 2) u e → t.end ≡ e.used → e.next ≤ t.next → Went k l p u t
+pub read_went : {k l : List ℕ} {p u : ℕ} {e : Built} (t : Passed) → p ≤ token_limit → u ≤ p → Steps.Went k l (p + 2) u e → parts_then u t.row ≡ e.used → e.next ≤ t.next → Went k l p u t
 read_went {u = u} {e = e} t l g h q n =
-    let z : cond (eqb t.end 0) u t.end ≡ e.used = ap (λ (v : ℕ). cond (eqb v 0) u v) q ∙ then_is u e.used h.more in
     let o = h.on in
     let f = h.few in
     let m = h.more in
@@ -88,8 +82,8 @@ three_on s = moved (omega arith) (stand_next (two_on s))
 four_on : {c : Source} {p : ℕ} {a b d e : Token} {w : List Token} → Stand c p (a ∷ b ∷ d ∷ e ∷ w) → Stand c (p + 4) w
 four_on s = moved (omega arith) (two_on (two_on s))
 
-name_at : {c : Source} {j : ℕ} {n : Token} {w : List Token} (q : ℕ) → Stand c j (n ∷ w) → n.rule ≡ atom → q ≡ get_or c.places j 0 → NameAt c true j q (some (named n))
-name_at {n = n} q s a e = let h = stand_here s in (refl, record { token = n; here = h; atom = a; is = refl }, e ∙ sym h.place)
+name_at : {c : Source} {j : ℕ} {n : Token} {w : List Token} (q : ℕ) → Stand c j (n ∷ w) → n.rule ≡ atom → q ≡ get_or c.places j 0 → NameAt c (Some (record { token = j; place = q })) (some (named n))
+name_at {n = n} q s a e = let h = stand_here s in (record { token = n; here = h; atom = a; is = refl }, e ∙ sym h.place)
 
 spelt : {c : Source} {j : ℕ} {n : Token} {w : List Token} → Stand c j (n ∷ w) → Spelt c.text c.places c.lengths j n
 spelt s = let h = stand_here s in record { bytes = h.bytes; within = h.within }
@@ -109,17 +103,16 @@ word_at s e = e ∙ sym (stand_here s).place
 
 module _ {c : Source} {p u : ℕ} {k : List ℕ} where
   pub task_gives : {w r : List Token} {m : Mode} {rs : List Row} → Fair c p w → (n q : ℕ) → n ≡ kind_at c.kinds p → q ≡ get_or c.places (p + 2) 0 → Turn task_line w r m rs
-      → Gives c k k u (record { ok = true; next = p + 4; mode = 0; row = true; kind = n; word = 0; named = true; name = p + 2; place = q; first = 0; end = 0; start = 0; large = false; flag = 0 }) m r rs
+      → Gives c k k u (record { next = p + 4; mode = AtRow; row = Some (record { kind = n; word = 0; name = Some (record { token = p + 2; place = q }); expression = None; flag = 0 }) }) m r rs
   task_gives f n q a b (a_task_line h i) = record {
-    ok = refl;
     stand = four_on f.stand;
     mode = refl;
     rows = record {
-      row = refl;
       kind = a ∙ stand_kind f.stand ∙ terminal_is h;
       word = refl;
       low = omega arith;
       name = name_at q (two_on f.stand) i b;
+      alike = tt;
       first = refl;
       end = refl;
       start = refl;
@@ -131,17 +124,16 @@ module _ {c : Source} {p u : ℕ} {k : List ℕ} where
   }
 
   pub data_gives : {w r : List Token} {m : Mode} {rs : List Row} → Fair c p w → (q d : ℕ) → q ≡ get_or c.places (p + 2) 0 → Declares c.text c.places c.lengths (p + 6) d → Turn data_lines w r m rs
-      → Gives c k k u (record { ok = true; next = p + 8; mode = 0; row = true; kind = 18; word = 0; named = true; name = p + 2; place = q; first = 0; end = 0; start = 0; large = false; flag = d }) m r rs
+      → Gives c k k u (record { next = p + 8; mode = AtRow; row = Some (record { kind = 18; word = 0; name = Some (record { token = p + 2; place = q }); expression = None; flag = d }) }) m r rs
   data_gives f q d b e (some_data_lines {k = t} {x = x} i y) = record {
-    ok = refl;
     stand = moved (omega arith) (four_on (four_on f.stand));
     mode = refl;
     rows = record {
-      row = refl;
       kind = refl;
       word = refl;
       low = omega arith;
       name = name_at q (two_on f.stand) i b;
+      alike = tt;
       first = refl;
       end = refl;
       start = refl;
@@ -153,17 +145,16 @@ module _ {c : Source} {p u : ℕ} {k : List ℕ} where
   }
 
   pub name_gives : {w r : List Token} {m : Mode} {rs : List Row} → Fair c p w → (n o q : ℕ) → n ≡ kind_at c.kinds p → o ≡ get_or c.places p 0 → q ≡ get_or c.places (p + 2) 0 → Turn name_line w r m rs
-      → Gives c k k u (record { ok = true; next = p + 4; mode = 0; row = true; kind = n; word = o; named = true; name = p + 2; place = q; first = 0; end = 0; start = 0; large = false; flag = 0 }) m r rs
+      → Gives c k k u (record { next = p + 4; mode = AtRow; row = Some (record { kind = n; word = o; name = Some (record { token = p + 2; place = q }); expression = None; flag = 0 }) }) m r rs
   name_gives f n o q a v b (a_name_line h i) = record {
-    ok = refl;
     stand = four_on f.stand;
     mode = refl;
     rows = record {
-      row = refl;
       kind = a ∙ stand_kind f.stand ∙ terminal_is h;
       word = word_at f.stand v;
       low = low_place o f v;
       name = name_at q (two_on f.stand) i b;
+      alike = tt;
       first = refl;
       end = refl;
       start = refl;
@@ -175,17 +166,16 @@ module _ {c : Source} {p u : ℕ} {k : List ℕ} where
   }
 
   pub answer_gives : {w r : List Token} {m : Mode} {rs : List Row} → Fair c p w → (n o d : ℕ) → n ≡ kind_at c.kinds p → o ≡ get_or c.places p 0 → Answers c.text c.places c.lengths (p + 2) d → Turn answer_line w r m rs
-      → Gives c k k u (record { ok = true; next = p + 4; mode = 0; row = true; kind = n; word = o; named = false; name = 0; place = 0; first = 0; end = 0; start = 0; large = false; flag = d }) m r rs
+      → Gives c k k u (record { next = p + 4; mode = AtRow; row = Some (record { kind = n; word = o; name = None; expression = None; flag = d }) }) m r rs
   answer_gives f n o d a v e (an_answer_line {y = y} {b = b} h z) = record {
-    ok = refl;
     stand = four_on f.stand;
     mode = refl;
     rows = record {
-      row = refl;
       kind = a ∙ stand_kind f.stand ∙ terminal_is h;
       word = word_at f.stand v;
       low = low_place o f v;
-      name = (refl, refl);
+      name = tt;
+      alike = tt;
       first = refl;
       end = refl;
       start = refl;
@@ -197,17 +187,16 @@ module _ {c : Source} {p u : ℕ} {k : List ℕ} where
   }
 
   pub constraint_gives : {w r : List Token} {m : Mode} {rs : List Row} → Fair c p w → (o q : ℕ) → o ≡ get_or c.places p 0 → q ≡ get_or c.places (p + 4) 0 → Turn constraint_line w r m rs
-      → Gives c k k u (record { ok = true; next = p + 7; mode = 0; row = true; kind = 57; word = o; named = true; name = p + 4; place = q; first = 0; end = 0; start = 0; large = false; flag = 0 }) m r rs
+      → Gives c k k u (record { next = p + 7; mode = AtRow; row = Some (record { kind = 57; word = o; name = Some (record { token = p + 4; place = q }); expression = None; flag = 0 }) }) m r rs
   constraint_gives f o q v b (a_constraint_line i) = record {
-    ok = refl;
     stand = moved (omega arith) (three_on (four_on f.stand));
     mode = refl;
     rows = record {
-      row = refl;
       kind = refl;
       word = word_at f.stand v;
       low = low_place o f v;
       name = name_at q (four_on f.stand) i b;
+      alike = tt;
       first = refl;
       end = refl;
       start = refl;
@@ -219,17 +208,16 @@ module _ {c : Source} {p u : ℕ} {k : List ℕ} where
   }
 
   pub postcondition_gives : {w r : List Token} {m : Mode} {rs : List Row} → Fair c p w → (o : ℕ) → o ≡ get_or c.places p 0 → Turn postcondition_word w r m rs
-      → Gives c k k u (record { ok = true; next = p + 2; mode = 1; row = true; kind = 50; word = o; named = false; name = 0; place = 0; first = 0; end = 0; start = 0; large = false; flag = 0 }) m r rs
+      → Gives c k k u (record { next = p + 2; mode = Before; row = Some (record { kind = 50; word = o; name = None; expression = None; flag = 0 }) }) m r rs
   postcondition_gives f o v a_postcondition_word = record {
-    ok = refl;
     stand = two_on f.stand;
     mode = refl;
     rows = record {
-      row = refl;
       kind = refl;
       word = word_at f.stand v;
       low = low_place o f v;
-      name = (refl, refl);
+      name = tt;
+      alike = tt;
       first = refl;
       end = refl;
       start = refl;
@@ -259,20 +247,19 @@ module _ {c : Source} {k l : List ℕ} {p u : ℕ} {e : Built} where
 
   pub expression_gives : {w r : List Token} {m : Mode} {rs : List Row} → Fair c p w → (n o q : ℕ) (b : Bool) → n ≡ kind_at c.kinds p → o ≡ get_or c.places p 0 → q ≡ get_or c.places (p + 2) 0
       → Reads anywhere c k l (p + 2) u e → IsLarge e.depth e.longest b → Turn expression_line w r m rs
-      → Gives c k l u (record { ok = true; next = e.next + 1; mode = 0; row = true; kind = n; word = o; named = false; name = 0; place = 0; first = u; end = e.used; start = q; large = b; flag = 0 }) m r rs
+      → Gives c k l u (record { next = e.next + 1; mode = AtRow; row = Some (record { kind = n; word = o; name = None; expression = Some (record { first = u; end = e.used; start = q; large = b }); flag = 0 }) }) m r rs
   expression_gives f n o q b a v j x lg (an_expression_line {x = t} {s = s} {w = w} {r = r} {e = y} h i z sc) =
       let g = two_fine f.stand f.fine in
       let d = x.done g.count (t ∷ w) (s ∷ r) y (two_on f.stand) z (line_ends r sc) g.all in
       record {
-        ok = refl;
         stand = stand_next d.stand;
         mode = refl;
         rows = record {
-          row = refl;
           kind = a ∙ stand_kind f.stand ∙ terminal_is h;
           word = word_at f.stand v;
           low = low_place o f v;
-          name = (refl, refl);
+          name = tt;
+          alike = tt;
           first = refl;
           end = used_there d;
           start = word_at (two_on f.stand) j;
@@ -290,20 +277,19 @@ module _ {c : Source} {k l : List ℕ} {p u : ℕ} {e : Built} where
 
   pub assignment_gives : {w r : List Token} {m : Mode} {rs : List Row} → Fair c p w → (o q : ℕ) (b : Bool) → o ≡ get_or c.places p 0 → q ≡ get_or c.places (p + 2) 0
       → Reads assigned c k l (p + 2) u e → IsLarge e.depth e.longest b → Turn assignment_there w r m rs
-      → Gives c k l u (record { ok = true; next = e.next; mode = 2; row = true; kind = 81; word = 0; named = true; name = p; place = o; first = u; end = e.used; start = q; large = b; flag = 0 }) m r rs
+      → Gives c k l u (record { next = e.next; mode = Behind; row = Some (record { kind = 81; word = 0; name = Some (record { token = p; place = o }); expression = Some (record { first = u; end = e.used; start = q; large = b }); flag = 0 }) }) m r rs
   assignment_gives f o q b v j x lg (assigns {x = t} {w = w} {r = r} {e = y} h z i) =
       let g = two_fine f.stand f.fine in
       let d = x.done g.count (t ∷ w) r y (two_on f.stand) z i g.all in
       record {
-        ok = refl;
         stand = d.stand;
         mode = refl;
         rows = record {
-          row = refl;
           kind = refl;
           word = refl;
           low = omega arith;
           name = name_at o f.stand h v;
+          alike = tt;
           first = refl;
           end = used_there d;
           start = word_at (two_on f.stand) j;
@@ -317,46 +303,46 @@ module _ {c : Source} {k l : List ℕ} {p u : ℕ} {e : Built} where
 -- ---- turns with none
 
 module _ {c : Source} {p : ℕ} (near : p ≤ token_limit) where
-  end_gives : {k : List ℕ} {u : ℕ} {w r : List Token} {m : Mode} {rs : List Row} → Fair c p w → Turn end_line w r m rs → Gives c k k u (onto (p + 3) 0) m r rs
-  end_gives f an_end_line = record { ok = refl; stand = three_on f.stand; mode = refl; rows = (refl, refl) }
+  end_gives : {k : List ℕ} {u : ℕ} {w r : List Token} {m : Mode} {rs : List Row} → Fair c p w → Turn end_line w r m rs → Gives c k k u (onto (p + 3) AtRow) m r rs
+  end_gives f an_end_line = record { stand = three_on f.stand; mode = refl; rows = tt }
 
-  pub end_passes : Plain end_line c p (onto (p + 3) 0)
-  end_passes k u h = record { onward = λ e. plain_went k (onto (p + 3) 0) near (omega arith) refl h; done = λ w r m rs f x. end_gives f x }
+  pub end_passes : Plain end_line c p (onto (p + 3) AtRow)
+  end_passes k u h = record { onward = plain_went k (onto (p + 3) AtRow) near (omega arith) refl h; done = λ w r m rs f x. end_gives f x }
 
-  opening_gives : {k : List ℕ} {u : ℕ} {w r : List Token} {m : Mode} {rs : List Row} → Fair c p w → Turn opening w r m rs → Gives c k k u (onto (p + 1) 1) m r rs
-  opening_gives f opens = record { ok = refl; stand = stand_next f.stand; mode = refl; rows = (refl, refl) }
+  opening_gives : {k : List ℕ} {u : ℕ} {w r : List Token} {m : Mode} {rs : List Row} → Fair c p w → Turn opening w r m rs → Gives c k k u (onto (p + 1) Before) m r rs
+  opening_gives f opens = record { stand = stand_next f.stand; mode = refl; rows = tt }
 
-  pub opening_passes : Plain opening c p (onto (p + 1) 1)
-  opening_passes k u h = record { onward = λ e. plain_went k (onto (p + 1) 1) near (omega arith) refl h; done = λ w r m rs f x. opening_gives f x }
+  pub opening_passes : Plain opening c p (onto (p + 1) Before)
+  opening_passes k u h = record { onward = plain_went k (onto (p + 1) Before) near (omega arith) refl h; done = λ w r m rs f x. opening_gives f x }
 
-  closing_gives : {k : List ℕ} {u : ℕ} {w r : List Token} {m : Mode} {rs : List Row} → Fair c p w → Turn closing w r m rs → Gives c k k u (onto (p + 1) 2) m r rs
-  closing_gives f closes = record { ok = refl; stand = stand_next f.stand; mode = refl; rows = (refl, refl) }
+  closing_gives : {k : List ℕ} {u : ℕ} {w r : List Token} {m : Mode} {rs : List Row} → Fair c p w → Turn closing w r m rs → Gives c k k u (onto (p + 1) Behind) m r rs
+  closing_gives f closes = record { stand = stand_next f.stand; mode = refl; rows = tt }
 
-  pub closing_passes : Plain closing c p (onto (p + 1) 2)
-  closing_passes k u h = record { onward = λ e. plain_went k (onto (p + 1) 2) near (omega arith) refl h; done = λ w r m rs f x. closing_gives f x }
+  pub closing_passes : Plain closing c p (onto (p + 1) Behind)
+  closing_passes k u h = record { onward = plain_went k (onto (p + 1) Behind) near (omega arith) refl h; done = λ w r m rs f x. closing_gives f x }
 
-  going_on_gives : {k : List ℕ} {u : ℕ} {w r : List Token} {m : Mode} {rs : List Row} → Fair c p w → Turn going_on w r m rs → Gives c k k u (onto (p + 1) 1) m r rs
-  going_on_gives f goes_on = record { ok = refl; stand = stand_next f.stand; mode = refl; rows = (refl, refl) }
+  going_on_gives : {k : List ℕ} {u : ℕ} {w r : List Token} {m : Mode} {rs : List Row} → Fair c p w → Turn going_on w r m rs → Gives c k k u (onto (p + 1) Before) m r rs
+  going_on_gives f goes_on = record { stand = stand_next f.stand; mode = refl; rows = tt }
 
-  pub going_on_passes : Plain going_on c p (onto (p + 1) 1)
-  going_on_passes k u h = record { onward = λ e. plain_went k (onto (p + 1) 1) near (omega arith) refl h; done = λ w r m rs f x. going_on_gives f x }
+  pub going_on_passes : Plain going_on c p (onto (p + 1) Before)
+  going_on_passes k u h = record { onward = plain_went k (onto (p + 1) Before) near (omega arith) refl h; done = λ w r m rs f x. going_on_gives f x }
 
-  finish_gives : {k : List ℕ} {u : ℕ} {w r : List Token} {m : Mode} {rs : List Row} → Fair c p w → Turn finish w r m rs → Gives c k k u (onto (p + 1) 0) m r rs
-  finish_gives f finishes = record { ok = refl; stand = stand_next f.stand; mode = refl; rows = (refl, refl) }
+  finish_gives : {k : List ℕ} {u : ℕ} {w r : List Token} {m : Mode} {rs : List Row} → Fair c p w → Turn finish w r m rs → Gives c k k u (onto (p + 1) AtRow) m r rs
+  finish_gives f finishes = record { stand = stand_next f.stand; mode = refl; rows = tt }
 
-  pub finish_passes : Plain finish c p (onto (p + 1) 0)
-  finish_passes k u h = record { onward = λ e. plain_went k (onto (p + 1) 0) near (omega arith) refl h; done = λ w r m rs f x. finish_gives f x }
+  pub finish_passes : Plain finish c p (onto (p + 1) AtRow)
+  finish_passes k u h = record { onward = plain_went k (onto (p + 1) AtRow) near (omega arith) refl h; done = λ w r m rs f x. finish_gives f x }
 
 -- ---- turns by their first token
 
 module _ {c : Source} {p : ℕ} where
-  pub by_kind : {k l : List ℕ} {u : ℕ} {t : Passed} {m : Mode} {s : Shape} (n : ℕ) → n ≡ kind_at c.kinds p → shape m n ≡ s → Passes s c k l p u t → Steps m c k l p u t
+  pub by_kind : {k l : List ℕ} {u : ℕ} {t : Maybe Passed} {m : Mode} {s : Shape} (n : ℕ) → n ≡ kind_at c.kinds p → shape m n ≡ s → Passes s c k l p u t → Steps m c k l p u t
   by_kind {m = m} n e h x = record {
     onward = x.onward;
     done = λ s w r n rs g f y. x.done w r n rs f (subst (λ (z : Shape). Turn z w r n rs) (sym g ∙ ap (shape m) (sym (e ∙ stand_kind f.stand)) ∙ h) y);
   }
 
-  pub same_mode : {k l : List ℕ} {u : ℕ} {t : Passed} {m n : Mode} → m ≡ n → Steps n c k l p u t → Steps m c k l p u t
+  pub same_mode : {k l : List ℕ} {u : ℕ} {t : Maybe Passed} {m n : Mode} → m ≡ n → Steps n c k l p u t → Steps m c k l p u t
   same_mode {k} {l} {u} {t} e x = subst (λ (z : Mode). Steps z c k l p u t) (sym e) x
 
   -- no token stands so far on
@@ -403,8 +389,8 @@ decoded k =
 pub told : (k : ℕ) {s : ℕ} {z : Shape} → s ≡ letter (shape_outside k) → of_letter s ≡ z → shape_outside k ≡ z
 told k e h = sym (decoded k) ∙ ap of_letter (sym e) ∙ h
 
-pub behind_mode : (m : ℕ) → ¬ (m ≡ 0) → ¬ (m ≡ 1) → mode_of m ≡ behind
-behind_mode m a b = rw (ne_eqb m 0 a, ne_eqb m 1 b)
+pub behind_mode : mode_of Behind ≡ behind
+behind_mode = refl
 
 pub line_end : (x : ℕ) → ¬ (x ≡ 116) → ¬ (x ≡ 100) → ¬ (x ≡ 101) → ¬ (x ≡ 110) → ¬ (x ≡ 121) → ¬ (x ≡ 99) → ¬ (x ≡ 112) → of_letter x ≡ end_line
 line_end x a b d e f g h = rw (ne_eqb x 116 a, ne_eqb x 100 b, ne_eqb x 101 d, ne_eqb x 110 e, ne_eqb x 121 f, ne_eqb x 99 g, ne_eqb x 112 h)

@@ -1,13 +1,13 @@
 // What a turn passes: a line that begins with a word, or an assignment.
-ghost use Rattle.std.specs.Prelude.{◌≡◌, ◌≤◌};
+ghost use Rattle.std.specs.Prelude.{◌≡◌, ◌≤◌, get_or};
 ghost use Rattle.paper_guideline.specs.Limits.{token_limit};
-ghost use Rattle.leaves.specs.Source.{source};
+ghost use Rattle.leaves.specs.Source.{source_of};
 ghost use Rattle.guideline_rows.specs.Flat.{outside, task_line, data_lines, expression_line, name_line, answer_line, constraint_line, postcondition_word, assignment_there, shape_outside};
 ghost use Rattle.guideline_turns.specs.Made.{letter, IsLarge, Plain, Passes, Steps};
 
-use super::{Mode, Passed, on, stuck};
+use super::{Entry, Extent, Label, Mode, Passed, on};
 use expression_steps::kind_at;
-use leaves::cell;
+use leaves::Tokens;
 use limits::Expression;
 use terminals::Terminal;
 use values::List;
@@ -37,181 +37,213 @@ fn large(depth: usize, longest: usize) -> bool
     Expression::DEPTH < depth || List::LIST_LIMIT < longest
 }
 
+// The token `j`, which is a name, and its place.
+fn label(tokens: Tokens, j: usize) -> Label
+    ensures { result ≡ record { token = j; place = get_or tokens.entry.places.now j 0 } }
+{
+    Label {
+        token: j,
+        place: tokens.place(j),
+    }
+}
+
 // `plan :: name ;`
-fn task(text: &[u8], kinds: &[u8], places: &[usize], lengths: &[usize], p: usize) -> Passed
+fn task(tokens: Tokens, p: usize) -> Passed
     requires { p ≤ token_limit }
-    ensures { Plain task_line (source text.now kinds.now places.now lengths.now) p result }
+    ensures { Plain task_line (source_of tokens.entry) p result }
 {
     Passed {
-        row: true,
-        kind: kind_at(kinds, p),
-        named: true,
-        name: p + 2,
-        place: cell(places, p + 2),
-        ..on(p + 4, Mode::ROW)
+        next: p + 4,
+        mode: Mode::Row,
+        row: Some(Entry {
+            kind: kind_at(tokens.kinds, p),
+            word: 0,
+            name: Some(label(tokens, p + 2)),
+            expression: None,
+            flag: 0,
+        }),
     }
 }
 
 // `data :: name ; type :: type ;`
-fn data_item(text: &[u8], kinds: &[u8], places: &[usize], lengths: &[usize], p: usize) -> Passed
+fn data_item(tokens: Tokens, p: usize) -> Passed
     requires { p ≤ token_limit }
-    ensures { Plain data_lines (source text.now kinds.now places.now lengths.now) p result }
+    ensures { Plain data_lines (source_of tokens.entry) p result }
 {
     Passed {
-        row: true,
-        kind: Terminal::DATA,
-        named: true,
-        name: p + 2,
-        place: cell(places, p + 2),
-        flag: guideline_rows::declared(text, places, lengths, p + 6),
-        ..on(p + 8, Mode::ROW)
+        next: p + 8,
+        mode: Mode::Row,
+        row: Some(Entry {
+            kind: Terminal::DATA,
+            word: 0,
+            name: Some(label(tokens, p + 2)),
+            expression: None,
+            flag: guideline_rows::declared(tokens, p + 6),
+        }),
     }
 }
 
 // `caption :: expression ;`
-fn expression(
-    text: &[u8],
-    kinds: &[u8],
-    places: &[usize],
-    lengths: &[usize],
-    cells: &mut [u32],
-    p: usize,
-    u: usize,
-) -> Passed
+fn expression(tokens: Tokens, cells: &mut [u32], p: usize, u: usize) -> Option<Passed>
     requires { (p ≤ token_limit) × (u ≤ p) }
-    ensures { Passes expression_line (source text.now kinds.now places.now lengths.now) cells.old cells.new p u result }
+    ensures { Passes expression_line (source_of tokens.entry) cells.old cells.new p u result }
 {
-    let e = expression_reader::read(text, kinds, places, lengths, p + 2, false, cells, u);
+    let e = expression_reader::read(
+        tokens.text,
+        tokens.kinds,
+        tokens.places,
+        tokens.lengths,
+        p + 2,
+        false,
+        cells,
+        u,
+    );
     if !e.ok {
-        return stuck();
+        return None;
     }
     let n = e.next;
-    if kinds.len() <= n {
-        return stuck();
+    if tokens.kinds.len() <= n {
+        return None;
     }
-    Passed {
-        row: true,
-        kind: kind_at(kinds, p),
-        word: cell(places, p),
-        first: u,
-        end: e.used,
-        start: cell(places, p + 2),
-        large: large(e.depth, e.longest),
-        ..on(n + 1, Mode::ROW)
-    }
+    Some(Passed {
+        next: n + 1,
+        mode: Mode::Row,
+        row: Some(Entry {
+            kind: kind_at(tokens.kinds, p),
+            word: tokens.place(p),
+            name: None,
+            expression: Some(Extent {
+                first: u,
+                end: e.used,
+                start: tokens.place(p + 2),
+                large: large(e.depth, e.longest),
+            }),
+            flag: 0,
+        }),
+    })
 }
 
 // `component :: name ;`
-fn name(text: &[u8], kinds: &[u8], places: &[usize], lengths: &[usize], p: usize) -> Passed
+fn name(tokens: Tokens, p: usize) -> Passed
     requires { p ≤ token_limit }
-    ensures { Plain name_line (source text.now kinds.now places.now lengths.now) p result }
+    ensures { Plain name_line (source_of tokens.entry) p result }
 {
     Passed {
-        row: true,
-        kind: kind_at(kinds, p),
-        word: cell(places, p),
-        named: true,
-        name: p + 2,
-        place: cell(places, p + 2),
-        ..on(p + 4, Mode::ROW)
+        next: p + 4,
+        mode: Mode::Row,
+        row: Some(Entry {
+            kind: kind_at(tokens.kinds, p),
+            word: tokens.place(p),
+            name: Some(label(tokens, p + 2)),
+            expression: None,
+            flag: 0,
+        }),
     }
 }
 
 // `mandatory :: yes ;`
-fn answer(text: &[u8], kinds: &[u8], places: &[usize], lengths: &[usize], p: usize) -> Passed
+fn answer(tokens: Tokens, p: usize) -> Passed
     requires { p ≤ token_limit }
-    ensures { Plain answer_line (source text.now kinds.now places.now lengths.now) p result }
+    ensures { Plain answer_line (source_of tokens.entry) p result }
 {
     Passed {
-        row: true,
-        kind: kind_at(kinds, p),
-        word: cell(places, p),
-        flag: guideline_rows::answer(text, places, lengths, p + 2),
-        ..on(p + 4, Mode::ROW)
+        next: p + 4,
+        mode: Mode::Row,
+        row: Some(Entry {
+            kind: kind_at(tokens.kinds, p),
+            word: tokens.place(p),
+            name: None,
+            expression: None,
+            flag: guideline_rows::answer(tokens, p + 2),
+        }),
     }
 }
 
 // `schedule_constraint :: completed ( name ) ;`
-fn constraint(text: &[u8], kinds: &[u8], places: &[usize], lengths: &[usize], p: usize) -> Passed
+fn constraint(tokens: Tokens, p: usize) -> Passed
     requires { p ≤ token_limit }
-    ensures { Plain constraint_line (source text.now kinds.now places.now lengths.now) p result }
+    ensures { Plain constraint_line (source_of tokens.entry) p result }
 {
     Passed {
-        row: true,
-        kind: Terminal::SCHEDULE_CONSTRAINT,
-        word: cell(places, p),
-        named: true,
-        name: p + 4,
-        place: cell(places, p + 4),
-        ..on(p + 7, Mode::ROW)
+        next: p + 7,
+        mode: Mode::Row,
+        row: Some(Entry {
+            kind: Terminal::SCHEDULE_CONSTRAINT,
+            word: tokens.place(p),
+            name: Some(label(tokens, p + 4)),
+            expression: None,
+            flag: 0,
+        }),
     }
 }
 
 // `postcondition ::`
-fn postcondition(text: &[u8], kinds: &[u8], places: &[usize], lengths: &[usize], p: usize) -> Passed
+fn postcondition(tokens: Tokens, p: usize) -> Passed
     requires { p ≤ token_limit }
-    ensures { Plain postcondition_word (source text.now kinds.now places.now lengths.now) p result }
+    ensures { Plain postcondition_word (source_of tokens.entry) p result }
 {
     Passed {
-        row: true,
-        kind: Terminal::POSTCONDITION,
-        word: cell(places, p),
-        ..on(p + 2, Mode::BEFORE)
+        next: p + 2,
+        mode: Mode::Before,
+        row: Some(Entry {
+            kind: Terminal::POSTCONDITION,
+            word: tokens.place(p),
+            name: None,
+            expression: None,
+            flag: 0,
+        }),
     }
 }
 
 // `name = expression`
-pub fn assignment(
-    text: &[u8],
-    kinds: &[u8],
-    places: &[usize],
-    lengths: &[usize],
-    cells: &mut [u32],
-    p: usize,
-    u: usize,
-) -> Passed
+pub fn assignment(tokens: Tokens, cells: &mut [u32], p: usize, u: usize) -> Option<Passed>
     requires { (p ≤ token_limit) × (u ≤ p) }
-    ensures { Passes assignment_there (source text.now kinds.now places.now lengths.now) cells.old cells.new p u result }
+    ensures { Passes assignment_there (source_of tokens.entry) cells.old cells.new p u result }
 {
-    let e = expression_reader::read(text, kinds, places, lengths, p + 2, true, cells, u);
+    let e = expression_reader::read(
+        tokens.text,
+        tokens.kinds,
+        tokens.places,
+        tokens.lengths,
+        p + 2,
+        true,
+        cells,
+        u,
+    );
     if !e.ok {
-        return stuck();
+        return None;
     }
-    Passed {
-        row: true,
-        kind: Terminal::EQUALS,
-        named: true,
-        name: p,
-        place: cell(places, p),
-        first: u,
-        end: e.used,
-        start: cell(places, p + 2),
-        large: large(e.depth, e.longest),
-        ..on(e.next, Mode::BEHIND)
-    }
+    Some(Passed {
+        next: e.next,
+        mode: Mode::Behind,
+        row: Some(Entry {
+            kind: Terminal::EQUALS,
+            word: 0,
+            name: Some(label(tokens, p)),
+            expression: Some(Extent {
+                first: u,
+                end: e.used,
+                start: tokens.place(p + 2),
+                large: large(e.depth, e.longest),
+            }),
+            flag: 0,
+        }),
+    })
 }
 
 // A line, by its first token.
-pub fn line(
-    text: &[u8],
-    kinds: &[u8],
-    places: &[usize],
-    lengths: &[usize],
-    cells: &mut [u32],
-    p: usize,
-    u: usize,
-) -> Passed
+pub fn line(tokens: Tokens, cells: &mut [u32], p: usize, u: usize) -> Option<Passed>
     requires { (p ≤ token_limit) × (u ≤ p) }
-    ensures { Steps outside (source text.now kinds.now places.now lengths.now) cells.old cells.new p u result }
+    ensures { Steps outside (source_of tokens.entry) cells.old cells.new p u result }
 {
-    match shape(kind_at(kinds, p)) {
-        b't' => task(text, kinds, places, lengths, p),
-        b'd' => data_item(text, kinds, places, lengths, p),
-        b'e' => expression(text, kinds, places, lengths, cells, p, u),
-        b'n' => name(text, kinds, places, lengths, p),
-        b'y' => answer(text, kinds, places, lengths, p),
-        b'c' => constraint(text, kinds, places, lengths, p),
-        b'p' => postcondition(text, kinds, places, lengths, p),
-        _ => on(p + 3, Mode::ROW),
+    match shape(kind_at(tokens.kinds, p)) {
+        b't' => Some(task(tokens, p)),
+        b'd' => Some(data_item(tokens, p)),
+        b'e' => expression(tokens, cells, p, u),
+        b'n' => Some(name(tokens, p)),
+        b'y' => Some(answer(tokens, p)),
+        b'c' => Some(constraint(tokens, p)),
+        b'p' => Some(postcondition(tokens, p)),
+        _ => Some(on(p + 3, Mode::Row)),
     }
 }

@@ -1,5 +1,5 @@
 -- Laws of the walk: what is passed and what is left, and one turn. The rows passed are added up, and written where there is room.
-use Rattle.std.specs.Prelude.{ℕ, ◌+◌, ◌*◌, ◌≤◌, ◌<◌, ◌≡◌, refl, true, ◌⊎◌, List, [], ◌∷◌, ◌++◌, length, get_or}
+use Rattle.std.specs.Prelude.{ℕ, ◌+◌, ◌*◌, ◌≤◌, ◌<◌, ◌≡◌, refl, true, ◌⊎◌, List, [], ◌∷◌, ◌++◌, length, get_or, Option as Maybe, None, Some, IsSomeAnd}
 use Rattle.std.proofs.Common.{sym, ap, subst, ◌∙◌, inl, inr, append_assoc, append-nil, arith, length-append}
 use Rattle.std.proofs.Math.Decide.{dec_lt}
 use Rattle.paper_tokens.specs.Lexical.{Token}
@@ -21,14 +21,17 @@ use Rattle.guideline_rows.specs.Flat
 use Flat.{Mode, Shape, Turn, Flat, at_end, turn}
 use Rattle.guideline_rows.specs.FlatLaws.{structure_flat}
 use Rattle.guideline_rows.specs.Brackets.{turn_fine}
+use Rattle.guideline_turns.specs.declared.Entry.{Entry}
+use Rattle.guideline_turns.specs.declared.Mode.{Mode as Begins}
+use Rattle.guideline_turns.specs.declared.Mode.TheVariants.{Row as AtRow}
 use Rattle.guideline_turns.specs.declared.Passed.{Passed}
 use Rattle.guideline_turns.specs.Made.{Told, Tells, Gives, Fair, parts_then, Went, Steps, mode_of}
 use Rattle.guideline_walk.specs.declared.Totals.{Totals}
-use Rattle.guideline_walk.specs.Made.{Tallied, Roomy, Laid, Given, Walked, Writes, RowLaid}
+use Rattle.guideline_walk.specs.Made.{Tallied, Roomy, Laid, Given, Walked, WritesRow, Writes, RowLaid}
 use Rattle.guideline_walk.specs.TotalLaws.{then_is, tallied_more}
 
 -- the tables x, k, b before, and y, l, d now
-pub record Upto (c : Source) (x y k l b d : List ℕ) (p m : ℕ) (w : Totals) (rows : List Row) : Type 0 where
+pub record Upto (c : Source) (x y k l b d : List ℕ) (p : ℕ) (m : Begins) (w : Totals) (rows : List Row) : Type 0 where
   pub ok : w.ok ≡ true
   pub passed : List Row
   pub left : List Row
@@ -39,7 +42,7 @@ pub record Upto (c : Source) (x y k l b d : List ℕ) (p m : ℕ) (w : Totals) (
   pub fair : Fair c p tokens
   pub flat : Flat (mode_of m) tokens left
 
-pub upto_begin : {c : Source} {x k b : List ℕ} {ts : List Token} {g : List TopLevel} {w : Totals} → w.ok ≡ true → w.bytes ≡ 0 → Tallied [] w → Given c ts g → Upto c x x k k b b 0 0 w (flatten g)
+pub upto_begin : {c : Source} {x k b : List ℕ} {ts : List Token} {g : List TopLevel} {w : Totals} → w.ok ≡ true → w.bytes ≡ 0 → Tallied [] w → Given c ts g → Upto c x x k k b b 0 AtRow w (flatten g)
 upto_begin {c} {x} {k} {b} {ts} {g} o z t h = record {
   ok = o;
   passed = [];
@@ -149,24 +152,24 @@ module _ {c : Source} {x y k l b d : List ℕ} {rows passed : List Row} {w : Tot
         bytes = subst (Written b d' 0) (sym (text_snoc passed row)) (written_more laid.bytes (omega arith) rl.bytes);
       }
 
-  laid_next : {y' l' l'' d' : List ℕ} {t : Passed} {r : Totals} → Told c l l' w.parts t row → Beside w.parts (parts_then w.parts t) l l'
-      → Writes c.text c.places c.lengths y y' l' l'' d d' w t r → Laid x y' k l'' b d' (passed ++ (row ∷ [])) r
+  laid_next : {y' l' l'' d' : List ℕ} {t : Entry} {r : Totals} → Told c l l' w.parts t row → Beside w.parts (parts_then w.parts (Some t)) l l'
+      → WritesRow c.text c.places c.lengths y y' l' l'' d d' w t r → Laid x y' k l'' b d' (passed ++ (row ∷ [])) r
   laid_next {t = t} told bs wr =
       let f = parts_few in
       let few = room.few in
       let ps = room.parts in
       let lg = laid.parts.long in
       let h = wr.laid c.kinds _ w.parts row told room.sound rows_room bs.long (omega arith) (omega arith) texts_room in
-      laid_more (then_is w.parts t.end (expression_of row) told.end) bs h
+      laid_more (then_is w.parts t.expression (expression_of row) told.alike told.end) bs h
 
 -- ---- one turn
 
-module _ {c : Source} {x y k l b d : List ℕ} {p m : ℕ} {w : Totals} {rows : List Row} (u : Upto c x y k l b d p m w rows) where
+module _ {c : Source} {x y k l b d : List ℕ} {p : ℕ} {m : Begins} {w : Totals} {rows : List Row} (u : Upto c x y k l b d p m w rows) where
   module _ (inside : p < length c.kinds) where
     abbrev now : Turning (mode_of m) u.tokens u.left
     now = turning u.flat (let l = stand_length u.fair.stand in omega arith)
 
-    given : {l' : List ℕ} {t : Passed} → Steps (mode_of m) c l l' p w.parts t → Gives c l l' w.parts t now.next now.rest now.here
+    given : {l' : List ℕ} {o : Maybe Passed} → Steps (mode_of m) c l l' p w.parts o → IsSomeAnd o (λ t. Gives c l l' w.parts t now.next now.rest now.here)
     given s = s.done now.shape u.tokens now.rest now.next now.here now.shaped u.fair now.one
 
     rows_are : rows ≡ u.passed ++ (now.here ++ now.others)
@@ -180,18 +183,17 @@ module _ {c : Source} {x y k l b d : List ℕ} {p m : ℕ} {w : Totals} {rows : 
       flat_then = subst (λ (k : Mode). Flat k now.rest now.others) (sym g.mode) now.flat
 
       -- with no row, and with one
-      by_rows : {y' l'' d' : List ℕ} {r : Totals} (rs : List Row) → Tells c l l' w.parts t rs → rows ≡ u.passed ++ (rs ++ now.others) → Writes c.text c.places c.lengths y y' l' l'' d d' w t r
+      by_rows : {y' l'' d' : List ℕ} {r : Totals} (o : Maybe Entry) (rs : List Row) → Tells c l l' w.parts o rs → Beside w.parts (parts_then w.parts o) l l' → rows ≡ u.passed ++ (rs ++ now.others) → Writes c.text c.places c.lengths y y' l' l'' d d' w o r
           → Upto c x y' k l'' b d' t.next t.mode r rows
-      by_rows {y'} {l''} {d'} {r} [] h e q =
-          let z = q.none h.0 in
-          let v : parts_then w.parts t ≡ w.parts = rw h.1 in
+      by_rows {y'} {l''} {d'} {r} None [] h bs e q =
+          let z = q.none in
           let same : Upto c x y k l' b d t.next t.mode w rows = record {
             ok = u.ok;
             passed = u.passed;
             left = now.others;
             are = e;
             tally = u.tally;
-            laid = λ o. let i = u.laid o in record { used = i.used; cells = i.cells; parts = written_kept v went.beside i.parts; bytes = i.bytes };
+            laid = λ o. let i = u.laid o in record { used = i.used; cells = i.cells; parts = written_kept refl bs i.parts; bytes = i.bytes };
             tokens = now.rest;
             fair = fair_then;
             flat = flat_then;
@@ -200,27 +202,29 @@ module _ {c : Source} {x y k l b d : List ℕ} {p m : ℕ} {w : Totals} {rows : 
           let s2 = subst (λ (v : List ℕ). Upto c x v k l' b d t.next t.mode r rows) (sym z.1) s1 in
           let s3 = subst (λ (v : List ℕ). Upto c x y' k v b d t.next t.mode r rows) (sym z.2) s2 in
           subst (λ (v : List ℕ). Upto c x y' k l'' b v t.next t.mode r rows) (sym z.3) s3
-      by_rows (row ∷ []) h e q =
-          let a = q.adds h.row in
+      by_rows None (a ∷ b) h bs e q = absurd h
+      by_rows (Some g1) [] h bs e q = absurd h
+      by_rows (Some g1) (row ∷ []) h bs e q =
+          let a = q.some.adds in
           record {
             ok = a.ok ∙ u.ok;
             passed = u.passed ++ (row ∷ []);
             left = now.others;
             are = e ∙ sym (append_assoc u.passed (row ∷ []) now.others);
-            tally = tallied_more row h.kind h.end h.sized a u.tally;
-            laid = λ o. laid_next row now.others e u.tally o (u.laid o) h went.beside q;
+            tally = tallied_more row h.kind h.alike h.end h.sized a u.tally;
+            laid = λ o. laid_next row now.others e u.tally o (u.laid o) h bs q.some;
             tokens = now.rest;
             fair = fair_then;
             flat = flat_then;
           }
-      by_rows (a ∷ b ∷ l) h e q = absurd h
+      by_rows (Some g1) (a ∷ b ∷ l) h bs e q = absurd h
 
-    pub step_ok : {l' : List ℕ} {t : Passed} → Steps (mode_of m) c l l' p w.parts t → t.ok ≡ true
-    step_ok s = (given s).ok
+    pub step_ok : {l' : List ℕ} → Steps (mode_of m) c l l' p w.parts None → ⊥
+    step_ok s = given s
 
-    pub next_turn : {l' y' l'' d' : List ℕ} {t : Passed} {r : Totals} → Steps (mode_of m) c l l' p w.parts t → Writes c.text c.places c.lengths y y' l' l'' d d' w t r
+    pub next_turn : {l' y' l'' d' : List ℕ} {t : Passed} {r : Totals} → Steps (mode_of m) c l l' p w.parts (Some t) → Writes c.text c.places c.lengths y y' l' l'' d d' w t.row r
         → Upto c x y' k l'' b d' t.next t.mode r rows
-    next_turn s q = by_rows (given s) (s.onward (step_ok s)) now.here (given s).rows rows_are q
+    next_turn {t = t} s q = by_rows (given s) s.onward t.row now.here (given s).rows s.onward.beside rows_are q
 
   -- ---- at the end
 

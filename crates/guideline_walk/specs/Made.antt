@@ -1,5 +1,5 @@
 -- What the walk has to do: count what the rows of a guideline amount to, and, where there is room and no token is past a limit, write their encoding. Definitions only.
-use Rattle.std.specs.Prelude.{ℕ, ◌+◌, ◌*◌, ◌≤◌, ◌<◌, ◌≡◌, Bool, true, false, cond, ◌||◌, List, [], ◌∷◌, eqb, ltb, length}
+use Rattle.std.specs.Prelude.{ℕ, ◌+◌, ◌*◌, ◌≤◌, ◌<◌, ◌≡◌, Bool, true, false, cond, ◌||◌, List, [], ◌∷◌, eqb, ltb, length, Option as Maybe, IfNone, IfSome}
 use Rattle.std.proofs.Math.Option.{Option}
 use Rattle.paper_guideline.specs.Limits.{guideline_limit, token_limit, part_limit}
 use Rattle.paper_tokens.specs.Tokens.{“plan”, “action”, “enquiry”, “data”, “=”, “source”}
@@ -17,8 +17,10 @@ use Rattle.guideline_rows.specs.Rows.{Row, flatten, expression_of}
 use Rattle.guideline_rows.specs.Sizes.{size_in, first_of, end_of, HeldIn, parts_in}
 use Rattle.guideline_rows.specs.Tally.{of_kind, row_expressions, LargeAt}
 use Rattle.guideline_rows.specs.Encoded.{name_text, expression_text, row_text, text_of, behind_name, expression_parts, parts_of, name_handle, row_cells, cells_of}
-use Rattle.guideline_turns.specs.declared.Passed.{Passed}
-use Rattle.guideline_turns.specs.Made.{Named, NameAt, Sound, Told}
+use Rattle.guideline_turns.specs.declared.Label.{Label}
+use Rattle.guideline_turns.specs.declared.Extent.{Extent}
+use Rattle.guideline_turns.specs.declared.Entry.{Entry}
+use Rattle.guideline_turns.specs.Made.{Named, NameAt, place_in, first_in, end_in, start_in, large_in, Alike, parts_behind, Sound, Told}
 use Rattle.guideline_walk.specs.declared.Totals.{Totals}
 use Rattle.guideline_walk.specs.declared.texts.Moved.{Moved}
 
@@ -79,11 +81,11 @@ one k j = cond (eqb k j) 1 0
 abbrev pub least : Bool → ℕ → ℕ → ℕ
 least b place start = cond b (cond (ltb start place) start place) start
 
-abbrev pub then_parts : ℕ → ℕ → ℕ
-then_parts u e = cond (eqb e 0) u e
+abbrev pub then_parts : ℕ → Maybe Extent → ℕ
+then_parts u x = parts_behind u x
 
-abbrev pub place_of : Totals → Passed → ℕ
-place_of w t = cond t.large (least w.large w.place t.start) w.place
+abbrev pub place_of : Totals → Maybe Extent → ℕ
+place_of w x = cond (large_in x) (least w.large w.place (start_in x)) w.place
 
 pub record Small (w : Totals) : Type 0 where
   pub rows : w.rows ≤ token_limit
@@ -101,17 +103,17 @@ pub record Bound (w : Totals) (p : ℕ) : Type 0 where
   pub assignments : w.assignments ≤ w.rows
   pub sources : w.sources ≤ w.rows
 
-pub record Adds (w : Totals) (t : Passed) (o : ℕ) (r : Totals) : Type 0 where
+pub record Adds (w : Totals) (t : Entry) (o : ℕ) (r : Totals) : Type 0 where
   pub ok : r.ok ≡ w.ok
   pub rows : r.rows ≡ w.rows + 1
-  pub parts : r.parts ≡ then_parts w.parts t.end
+  pub parts : r.parts ≡ then_parts w.parts t.expression
   pub bytes : r.bytes ≡ o
   pub tasks : r.tasks ≡ w.tasks + (one t.kind “plan” + one t.kind “action” + one t.kind “enquiry”)
   pub items : r.items ≡ w.items + one t.kind “data”
   pub assignments : r.assignments ≡ w.assignments + one t.kind “=”
   pub sources : r.sources ≡ w.sources + one t.kind “source”
-  pub large : r.large ≡ (w.large || t.large)
-  pub place : r.place ≡ place_of w t
+  pub large : r.large ≡ (w.large || large_in t.expression)
+  pub place : r.place ≡ place_of w t.expression
 
 -- ---- one row, written
 
@@ -119,10 +121,10 @@ pub record Adds (w : Totals) (t : Passed) (o : ℕ) (r : Totals) : Type 0 where
 abbrev pub low : ℕ → ℕ
 low x = cond (ltb x 4294967296) x 0
 
-abbrev pub eight : Passed → ℕ → List ℕ
-eight t h = t.kind ∷ low t.word ∷ h ∷ low t.place ∷ low t.first ∷ low t.start ∷ low t.end ∷ t.flag ∷ []
+abbrev pub eight : Entry → ℕ → List ℕ
+eight t h = t.kind ∷ low t.word ∷ h ∷ low (place_in t.name) ∷ low (first_in t.expression) ∷ low (start_in t.expression) ∷ low (end_in t.expression) ∷ t.flag ∷ []
 
-pub record Puts (x y : List ℕ) (n : ℕ) (t : Passed) (h : ℕ) : Type 0 where
+pub record Puts (x y : List ℕ) (n : ℕ) (t : Entry) (h : ℕ) : Type 0 where
   pub done : n * 8 + 8 ≤ length x → Written x y (n * 8) (eight t h)
 
 -- what the name of the token j is without its quotes
@@ -137,9 +139,8 @@ pub record NameMoved (b d : List ℕ) (o : ℕ) (n : Option Name) (r : Moved) : 
   pub handle : r.handle ≡ name_handle o n
   pub bytes : Written b d o (name_text n)
 
-pub record MovesName (text places lengths b d : List ℕ) (some-name : Bool) (j o : ℕ) (r : Moved) : Type 0 where
-  pub done : (kinds : List ℕ) (p : ℕ) (n : Option Name) → Sound (source text kinds places lengths) → NameAt (source text kinds places lengths) some-name j p n → Fits b (o + length (name_text n))
-      → NameMoved b d o n r
+pub record MovesName (text places lengths b d : List ℕ) (l : Maybe Label) (o : ℕ) (r : Moved) : Type 0 where
+  pub done : (kinds : List ℕ) (n : Option Name) → Sound (source text kinds places lengths) → NameAt (source text kinds places lengths) l n → Fits b (o + length (name_text n)) → NameMoved b d o n r
 
 -- the texts of the expression, if there is one, stand from o up to r, and its parts lead there
 pub record TextsMoved (k l b d : List ℕ) (u o r : ℕ) (e : Option Outermost) : Type 0 where
@@ -147,8 +148,8 @@ pub record TextsMoved (k l b d : List ℕ) (u o r : ℕ) (e : Option Outermost) 
   pub parts : Written k l (u * 4) (flat (expression_parts o e))
   pub bytes : Written b d o (expression_text e)
 
-pub record MovesTexts (text k l b d : List ℕ) (first end o r : ℕ) : Type 0 where
-  pub done : (u : ℕ) (e : Option Outermost) → first ≡ first_of u e → end ≡ end_of u e → HeldIn (table k text) u e → (u + size_in e) * 4 ≤ length k → Fits b (o + length (expression_text e))
+pub record MovesTexts (text k l b d : List ℕ) (x : Maybe Extent) (o r : ℕ) : Type 0 where
+  pub done : (u : ℕ) (e : Option Outermost) → Alike x e → first_in x ≡ first_of u e → end_in x ≡ end_of u e → HeldIn (table k text) u e → (u + size_in e) * 4 ≤ length k → Fits b (o + length (expression_text e))
       → TextsMoved k l b d u o r e
 
 -- the row n, whose texts stand from o on and whose parts from u on
@@ -158,9 +159,13 @@ pub record RowLaid (x y k l b d : List ℕ) (n o u : ℕ) (row : Row) (r : Total
   pub parts : Written k l (u * 4) (flat (expression_parts (behind_name o row) (expression_of row)))
   pub bytes : Written b d o (row_text row)
 
-pub record Writes (text places lengths x y k l b d : List ℕ) (w : Totals) (t : Passed) (r : Totals) : Type 0 where
-  pub none : t.row ≡ false → (r ≡ w) × (y ≡ x) × (l ≡ k) × (d ≡ b)
-  pub adds : t.row ≡ true → Adds w t r.bytes r
+pub record WritesRow (text places lengths x y k l b d : List ℕ) (w : Totals) (t : Entry) (r : Totals) : Type 0 where
+  pub adds : Adds w t r.bytes r
   pub laid : (kinds j : List ℕ) (u : ℕ) (row : Row) → Told (source text kinds places lengths) j k u t row → Sound (source text kinds places lengths) → w.rows * 8 + 8 ≤ length x
       → length k ≡ length j → u + size_in (expression_of row) ≤ part_limit → (u + size_in (expression_of row)) * 4 ≤ length j → Fits b (w.bytes + length (row_text row))
       → RowLaid x y k l b d w.rows w.bytes u row r
+
+-- the row, if there is one; else all stays
+pub record Writes (text places lengths x y k l b d : List ℕ) (w : Totals) (o : Maybe Entry) (r : Totals) : Type 0 where
+  pub none : IfNone o ((r ≡ w) × (y ≡ x) × (l ≡ k) × (d ≡ b))
+  pub some : IfSome o (λ t. WritesRow text places lengths x y k l b d w t r)

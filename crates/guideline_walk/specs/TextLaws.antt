@@ -1,5 +1,5 @@
 -- Laws of one row: its name, the texts of its expression, its eight cells, and all of it.
-use Rattle.std.specs.Prelude.{ℕ, ◌+◌, ◌*◌, ◌/◌, ◌≤◌, ◌<◌, ◌≡◌, refl, Bool, true, false, List, [], ◌∷◌, length, set}
+use Rattle.std.specs.Prelude.{ℕ, ◌+◌, ◌*◌, ◌/◌, ◌≤◌, ◌<◌, ◌≡◌, refl, Bool, false, List, [], ◌∷◌, length, set, Option as Maybe, None, Some}
 use Rattle.std.proofs.Common.{sym, ap, subst, ◌∙◌, arith, length-append, length-set, lt-ltb}
 use Rattle.std.proofs.Math.Option.{Option, none, some}
 use Rattle.std.proofs.Math.Decide.{dec_lt}
@@ -13,7 +13,6 @@ use Rattle.paper_guideline.specs.Structure.{Name, Outermost}
 use Rattle.parts.specs.Texts.{cells, handle}
 use Rattle.parts.specs.Part.{table}
 use Rattle.parts.specs.Encode.{flat}
-use Rattle.parts.specs.Operands.{size_pos}
 use Rattle.leaves.specs.declared.names.Span.{Span}
 use Rattle.leaves.specs.Source.{Source, source}
 use Rattle.leaves.specs.Cells.{length_cells}
@@ -27,8 +26,10 @@ use Rattle.guideline_rows.specs.Rows.{Row, name_of, expression_of, word_of}
 use Rattle.guideline_rows.specs.Sizes.{size_in, first_of, end_of, start_of, HeldIn}
 use Rattle.guideline_rows.specs.Flags.{Spells}
 use Rattle.guideline_rows.specs.Encoded.{name_text, expression_text, row_text, expression_parts, name_handle, name_place, row_cells}
-use Rattle.guideline_turns.specs.declared.Passed.{Passed}
-use Rattle.guideline_turns.specs.Made.{Named, NameAt, Sound, Told}
+use Rattle.guideline_turns.specs.declared.Label.{Label}
+use Rattle.guideline_turns.specs.declared.Extent.{Extent}
+use Rattle.guideline_turns.specs.declared.Entry.{Entry}
+use Rattle.guideline_turns.specs.Made.{Named, NameAt, place_in, first_in, end_in, start_in, Alike, Sound, Told}
 use Rattle.guideline_walk.specs.declared.Totals.{Totals}
 use Rattle.guideline_walk.specs.declared.texts.Moved.{Moved}
 use Rattle.guideline_walk.specs.Made.{low, eight, Puts, SpellsName, NameMoved, MovesName, TextsMoved, MovesTexts, RowLaid}
@@ -53,56 +54,57 @@ module _ {text places lengths : List ℕ} {j : ℕ} {s : Span} (says : Spells te
       go (yes g) = absurd (sd.clean j h.token h.here (let i = h.here.inside in omega arith) (long_name h.atom (omega (arith, e))))
       go (no g) = omega (arith, l)
 
-module _ {text places lengths b : List ℕ} {j o : ℕ} where
-  pub no_name : {v : Bool} → v ≡ false → MovesName text places lengths b b v j o (record { handle = 0; behind = o })
-  no_name {v} e = subst (λ (v : Bool). MovesName text places lengths b b v j o (record { handle = 0; behind = o })) (sym e) (record { done = none_here })
+module _ {text places lengths b : List ℕ} {o : ℕ} where
+  pub no_name : MovesName text places lengths b b None o (record { handle = 0; behind = o })
+  no_name = record { done = none_here }
     where
-      none_here : (kinds : List ℕ) (p : ℕ) (n : Option Name) → Sound (source text kinds places lengths) → NameAt (source text kinds places lengths) false j p n → Fits b (o + length (name_text n))
+      none_here : (kinds : List ℕ) (n : Option Name) → Sound (source text kinds places lengths) → NameAt (source text kinds places lengths) None n → Fits b (o + length (name_text n))
           → NameMoved b b o n (record { handle = 0; behind = o })
-      none_here kinds p none sd h f = record { behind = omega arith; handle = refl; bytes = written_none b o }
-      none_here kinds p (some n) sd h f = contra h.0
+      none_here kinds none sd h f = record { behind = omega arith; handle = refl; bytes = written_none b o }
+      none_here kinds (some n) sd h f = absurd h
 
-  module _ {s : Span} (says : SpellsName text places lengths j s) where
-    pub no_room : {v q : Bool} {r : Moved} → v ≡ true → q ≡ false → Rooms (length b) (o + s.n) q → MovesName text places lengths b b v j o r
-    no_room {v} {q} {r} e eq m = subst (λ (v : Bool). MovesName text places lengths b b v j o r) (sym e) (record { done = some_here })
+  module _ {v : Label} {s : Span} (says : SpellsName text places lengths v.token s) where
+    pub no_room : {q : Bool} {r : Moved} → q ≡ false → Rooms (length b) (o + s.n) q → MovesName text places lengths b b (Some v) o r
+    no_room {q} {r} eq m = record { done = some_here }
       where
-        some_here : (kinds : List ℕ) (p : ℕ) (n : Option Name) → Sound (source text kinds places lengths) → NameAt (source text kinds places lengths) true j p n → Fits b (o + length (name_text n)) → NameMoved b b o n r
-        some_here kinds p none sd h f = contra (sym h.0)
-        some_here kinds p (some n) sd h f =
-            let e = ap length (says.named kinds n sd h.1) in
+        some_here : (kinds : List ℕ) (n : Option Name) → Sound (source text kinds places lengths) → NameAt (source text kinds places lengths) (Some v) n → Fits b (o + length (name_text n)) → NameMoved b b o n r
+        some_here kinds none sd h f = absurd h
+        some_here kinds (some n) sd h f =
+            let e = ap length (says.named kinds n sd h.0) in
             let l = length_cells text s.at s.n in
             contra (sym eq ∙ m.true_if (let y = f.bytes in omega arith, let y = f.places in omega arith))
 
-    pub name_moved : {d : List ℕ} {v : Bool} {x : ℕ} → v ≡ true → x ≡ handle o s.n → Written b d o (cells text s.at s.n) → MovesName text places lengths b d v j o (record { handle = x; behind = o + s.n })
-    name_moved {d} {v} {x} e ex w = subst (λ (v : Bool). MovesName text places lengths b d v j o (record { handle = x; behind = o + s.n })) (sym e) (record { done = some_here })
+    pub name_moved : {d : List ℕ} {x : ℕ} → x ≡ handle o s.n → Written b d o (cells text s.at s.n) → MovesName text places lengths b d (Some v) o (record { handle = x; behind = o + s.n })
+    name_moved {d} {x} ex w = record { done = some_here }
       where
-        some_here : (kinds : List ℕ) (p : ℕ) (n : Option Name) → Sound (source text kinds places lengths) → NameAt (source text kinds places lengths) true j p n → Fits b (o + length (name_text n))
+        some_here : (kinds : List ℕ) (n : Option Name) → Sound (source text kinds places lengths) → NameAt (source text kinds places lengths) (Some v) n → Fits b (o + length (name_text n))
             → NameMoved b d o n (record { handle = x; behind = o + s.n })
-        some_here kinds p none sd h f = contra (sym h.0)
-        some_here kinds p (some n) sd h f =
-            let q = says.named kinds n sd h.1 in
+        some_here kinds none sd h f = absurd h
+        some_here kinds (some n) sd h f =
+            let q = says.named kinds n sd h.0 in
             let e = ap length q in
             let l = length_cells text s.at s.n in
             record { behind = omega arith; handle = ex ∙ ap (handle o) (sym l ∙ e); bytes = subst (Written b d o) q w }
 
 -- ---- the texts of an expression
 
-module _ {text k b : List ℕ} {first end o : ℕ} where
-  pub texts_none : end ≡ 0 → MovesTexts text k k b b first end o o
-  texts_none z = record { done = none_here }
+module _ {text k b : List ℕ} {o : ℕ} where
+  pub texts_none : MovesTexts text k k b b None o o
+  texts_none = record { done = none_here }
     where
-      none_here : (u : ℕ) (e : Option Outermost) → first ≡ first_of u e → end ≡ end_of u e → HeldIn (table k text) u e → (u + size_in e) * 4 ≤ length k → Fits b (o + length (expression_text e)) → TextsMoved k k b b u o o e
-      none_here u none ef ee h l f = record { ends = omega arith; parts = written_none k (u * 4); bytes = written_none b o }
-      none_here u (some x) ef ee h l f = absurd (omega (arith, size_pos x.tree))
+      none_here : (u : ℕ) (e : Option Outermost) → Alike None e → 0 ≡ first_of u e → 0 ≡ end_of u e → HeldIn (table k text) u e → (u + size_in e) * 4 ≤ length k → Fits b (o + length (expression_text e)) → TextsMoved k k b b u o o e
+      none_here u none a ef ee h l f = record { ends = omega arith; parts = written_none k (u * 4); bytes = written_none b o }
+      none_here u (some x) a ef ee h l f = absurd a
 
-  pub texts_moved : {l d : List ℕ} {r : ℕ} → ¬ (end ≡ 0) → Gathers text k l b d first end o r → MovesTexts text k l b d first end o r
-  texts_moved {l} {d} {r} n g = record { done = some_here }
+  pub texts_moved : {x : Extent} {l d : List ℕ} {r : ℕ} → Gathers text k l b d x.first x.end o r → MovesTexts text k l b d (Some x) o r
+  texts_moved {x} {l} {d} {r} g = record { done = some_here }
     where
-      some_here : (u : ℕ) (e : Option Outermost) → first ≡ first_of u e → end ≡ end_of u e → HeldIn (table k text) u e → (u + size_in e) * 4 ≤ length k → Fits b (o + length (expression_text e)) → TextsMoved k l b d u o r e
-      some_here u none ef ee h ln f = absurd (n ee)
-      some_here u (some x) ef ee h ln f =
-          let s = bare_size x.tree in
-          let m = gathered_in (subst (λ (j : ℕ). Gathers text k l b d j end o r) ef g) (bare x.tree) h (omega arith) (omega arith) f in
+      some_here : (u : ℕ) (e : Option Outermost) → Alike (Some x) e → x.first ≡ first_of u e → x.end ≡ end_of u e → HeldIn (table k text) u e → (u + size_in e) * 4 ≤ length k → Fits b (o + length (expression_text e))
+          → TextsMoved k l b d u o r e
+      some_here u none a ef ee h ln f = absurd a
+      some_here u (some y) a ef ee h ln f =
+          let s = bare_size y.tree in
+          let m = gathered_in (subst (λ (j : ℕ). Gathers text k l b d j x.end o r) ef g) (bare y.tree) h (omega arith) (omega arith) f in
           record { ends = m.ends; parts = m.cells; bytes = m.bytes }
 
 -- ---- the cells
@@ -127,7 +129,7 @@ eight_written x i a b c d e f g h l =
     let w7 = written_more w6 refl (written_one x6 (i + 6) g (omega arith)) in
     written_more w7 refl (written_one x7 (i + 7) h (omega arith))
 
-pub eight_put : (x : List ℕ) (n : ℕ) (t : Passed) (h a b d e f : ℕ) → a ≡ low t.word → b ≡ low t.place → d ≡ low t.first → e ≡ low t.start → f ≡ low t.end → n < length x / 8
+pub eight_put : (x : List ℕ) (n : ℕ) (t : Entry) (h a b d e f : ℕ) → a ≡ low t.word → b ≡ low (place_in t.name) → d ≡ low (first_in t.expression) → e ≡ low (start_in t.expression) → f ≡ low (end_in t.expression) → n < length x / 8
     → Puts x (set (set (set (set (set (set (set (set x (n * 8) t.kind) (n * 8 + 1) a) (n * 8 + 2) h) (n * 8 + 3) b) (n * 8 + 4) d) (n * 8 + 5) e) (n * 8 + 6) f) (n * 8 + 7) t.flag) n t h
 eight_put x n t h a b d e f ea eb ed ee ef l = record {
   done = λ g.
@@ -136,23 +138,25 @@ eight_put x n t h a b d e f ea eb ed ee ef l = record {
 }
 
 -- where a name stands
-place_is : (c : Source) (b : Bool) (j p : ℕ) (n : Option Name) → length c.text ≤ guideline_limit → NameAt c b j p n → (p ≡ name_place n) × (p ≤ guideline_limit)
-place_is c b j p none l h = let e = h.1 in (e, omega arith)
-place_is c b j p (some n) l h =
-    let w = h.1.here.within in
-    let q = h.1.here.place in
-    let e = ap (λ (z : Name). z.place) h.1.is in
-    let z = h.2 in
+place_is : (c : Source) (l : Maybe Label) (n : Option Name) → length c.text ≤ guideline_limit → NameAt c l n → (place_in l ≡ name_place n) × (place_in l ≤ guideline_limit)
+place_is c None none l h = (refl, omega arith)
+place_is c None (some n) l h = absurd h
+place_is c (Some v) none l h = absurd h
+place_is c (Some v) (some n) l h =
+    let w = h.0.here.within in
+    let q = h.0.here.place in
+    let e = ap (λ (z : Name). z.place) h.0.is in
+    let z = h.1 in
     (z, omega arith)
 
 first_low : (u : ℕ) (e : Option Outermost) → u + size_in e ≤ part_limit → (first_of u e ≤ part_limit) × (end_of u e ≤ part_limit)
 first_low u none h = (omega arith, omega arith)
 first_low u (some x) h = (omega arith, omega arith)
 
-module _ {c : Source} {j k : List ℕ} {u : ℕ} {t : Passed} {row : Row} (told : Told c j k u t row) (sd : Sound c) (few : u + size_in (expression_of row) ≤ part_limit) where
+module _ {c : Source} {j k : List ℕ} {u : ℕ} {t : Entry} {row : Row} (told : Told c j k u t row) (sd : Sound c) (few : u + size_in (expression_of row) ≤ part_limit) where
   pub cells_are : (o : ℕ) {h : ℕ} → h ≡ name_handle o (name_of row) → eight t h ≡ row_cells o u row
   cells_are o {h} eh =
-      let p = place_is c t.named t.name t.place (name_of row) sd.short told.name in
+      let p = place_is c t.name (name_of row) sd.short told.name in
       let q = first_low u (expression_of row) few in
       let pl = p.1 in
       let ef = told.first in
@@ -163,28 +167,28 @@ module _ {c : Source} {j k : List ℕ} {u : ℕ} {t : Passed} {row : Row} (told 
       let nr = told.near in
       let e1 = told.kind in
       let e2 : low t.word ≡ word_of row = low_is t.word (omega arith) ∙ told.word in
-      let e4 : low t.place ≡ name_place (name_of row) = low_is t.place (omega arith) ∙ p.0 in
-      let e5 : low t.first ≡ first_of u (expression_of row) = low_is t.first (omega arith) ∙ ef in
-      let e6 : low t.start ≡ start_of (expression_of row) = low_is t.start (omega arith) ∙ told.start in
-      let e7 : low t.end ≡ end_of u (expression_of row) = low_is t.end (omega arith) ∙ en in
+      let e4 : low (place_in t.name) ≡ name_place (name_of row) = low_is (place_in t.name) (omega arith) ∙ p.0 in
+      let e5 : low (first_in t.expression) ≡ first_of u (expression_of row) = low_is (first_in t.expression) (omega arith) ∙ ef in
+      let e6 : low (start_in t.expression) ≡ start_of (expression_of row) = low_is (start_in t.expression) (omega arith) ∙ told.start in
+      let e7 : low (end_in t.expression) ≡ end_of u (expression_of row) = low_is (end_in t.expression) (omega arith) ∙ en in
       let e8 = told.flag in
       cc
 
 -- ---- the whole row
 
-pub row_laid : {text kinds places lengths j x y k l b a d : List ℕ} {u o n z : ℕ} {t : Passed} {row : Row} {m : Moved} {r : Totals} → Told (source text kinds places lengths) j k u t row
+pub row_laid : {text kinds places lengths j x y k l b a d : List ℕ} {u o n z : ℕ} {t : Entry} {row : Row} {m : Moved} {r : Totals} → Told (source text kinds places lengths) j k u t row
     → Sound (source text kinds places lengths) → n * 8 + 8 ≤ length x → length k ≡ length j → u + size_in (expression_of row) ≤ part_limit → (u + size_in (expression_of row)) * 4 ≤ length j
-    → Fits b (o + length (row_text row)) → MovesName text places lengths b a t.named t.name o m → MovesTexts text k l a d t.first t.end m.behind z → Puts x y n t m.handle → r.bytes ≡ z
+    → Fits b (o + length (row_text row)) → MovesName text places lengths b a t.name o m → MovesTexts text k l a d t.expression m.behind z → Puts x y n t m.handle → r.bytes ≡ z
     → RowLaid x y k l b d n o u row r
 row_laid {text} {kinds} {places} {lengths} {j} {x} {y} {k} {l} {b} {a} {d} {u} {o} {n} {z} {t} {row} {m} {r} told sd lx lj few room ft name texts put er =
     let e = expression_of row in
     let al = length-append (name_text (name_of row)) (expression_text e) in
     let fb = ft.bytes in
     let fp = ft.places in
-    let nm = name.done kinds t.place (name_of row) sd told.name (record { bytes = omega arith; places = omega arith }) in
+    let nm = name.done kinds (name_of row) sd told.name (record { bytes = omega arith; places = omega arith }) in
     let nb = nm.behind in
     let nl = nm.bytes.long in
-    let tm = texts.done u e told.first told.end (told.held sd few room) (omega arith) (record { bytes = omega arith; places = omega arith }) in
+    let tm = texts.done u e told.alike told.first told.end (told.held sd few room) (omega arith) (record { bytes = omega arith; places = omega arith }) in
     let te = tm.ends in
     record {
       used = omega arith;

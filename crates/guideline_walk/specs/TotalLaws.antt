@@ -1,17 +1,18 @@
 -- Laws of the totals: a row besides adds what it has of each. By cases on the row, and by induction on the rows before it.
-use Rattle.std.specs.Prelude.{ℕ, ◌+◌, ◌≤◌, ◌<◌, ◌≡◌, refl, Bool, true, false, cond, ◌||◌, ◌⊎◌, List, [], ◌∷◌, ◌++◌, eqb, ltb}
-use Rattle.std.proofs.Common.{sym, ap, subst, ◌∙◌, inl, inr, ⊎_elim, arith, length-append, ne_eqb, ltb-true, ltb-false, lt-ltb, le-ltb}
+use Rattle.std.specs.Prelude.{ℕ, ◌+◌, ◌≤◌, ◌<◌, ◌≡◌, refl, Bool, true, false, cond, ◌||◌, ◌⊎◌, List, [], ◌∷◌, ◌++◌, eqb, ltb, Option as Maybe, None, Some}
+use Rattle.std.proofs.Common.{sym, ap, subst, ◌∙◌, inl, inr, ⊎_elim, arith, length-append, ltb-true, ltb-false, lt-ltb, le-ltb}
 use Rattle.std.proofs.Math.Option.{Option, none, some}
 use Rattle.paper_expressions.proofs.Laws.Tests.{two, contra}
 use Rattle.paper_guideline.specs.Limits.{token_limit}
 use Rattle.paper_guideline.specs.Structure.{Outermost}
-use Rattle.parts.specs.Operands.{size_pos}
 use Rattle.guideline_rows.specs.Rows.{Row, kind-of, expression_of}
 use Rattle.guideline_rows.specs.Sizes.{size_in, end_of}
 use Rattle.guideline_rows.specs.Tally.{of_kind, with, row_expressions, LargeAt, here, later}
 use Rattle.guideline_rows.specs.EncodedLaws.{sizes_snoc}
+use Rattle.guideline_turns.specs.declared.Extent.{Extent}
+use Rattle.guideline_turns.specs.declared.Entry.{Entry}
 use Rattle.guideline_turns.specs.declared.Passed.{Passed}
-use Rattle.guideline_turns.specs.Made.{Sized, Went}
+use Rattle.guideline_turns.specs.Made.{Sized, Went, end_in, start_in, large_in, Alike, parts_then}
 use Rattle.guideline_walk.specs.declared.Totals.{Totals}
 use Rattle.guideline_walk.specs.Made.{Tallied, one, least, then_parts, Small, Bound, Adds, Writes}
 
@@ -25,9 +26,11 @@ kind_snoc k (r ∷ rs) row =
 
 -- ---- parts
 
-pub then_is : (u e : ℕ) (x : Option Outermost) → e ≡ end_of u x → then_parts u e ≡ u + size_in x
-then_is u e none h = let z : u ≡ u + 0 = omega arith in rw h z
-then_is u e (some x) h = let p = size_pos x.tree in let n = ne_eqb e 0 (λ q. omega arith) in ap (λ (b : Bool). cond b u e) n ∙ h
+pub then_is : (u : ℕ) (x : Maybe Extent) (e : Option Outermost) → Alike x e → end_in x ≡ end_of u e → then_parts u x ≡ u + size_in e
+then_is u None none a h = omega arith
+then_is u None (some e) a h = absurd a
+then_is u (Some x) none a h = absurd a
+then_is u (Some x) (some e) a h = h
 
 -- ---- the smallest place
 
@@ -119,17 +122,18 @@ module _ {xs : List Outermost} {e : Option Outermost} {p s : ℕ} where
 pub tallied_none : {w : Totals} → w.rows ≡ 0 → w.parts ≡ 0 → w.tasks ≡ 0 → w.items ≡ 0 → w.assignments ≡ 0 → w.sources ≡ 0 → w.large ≡ false → w.place ≡ 0 → Tallied [] w
 tallied_none a b c d e f g h = record { count = a; parts = b; tasks = c; items = d; assignments = e; sources = f; some = λ t. contra (sym g ∙ t); least = λ q. elim [ ]; none = λ t. h }
 
-pub tallied_more : {rows : List Row} (row : Row) {w r : Totals} {t : Passed} {o : ℕ} → t.kind ≡ kind-of row → t.end ≡ end_of w.parts (expression_of row) → Sized (expression_of row) t.large t.start
+pub tallied_more : {rows : List Row} (row : Row) {w r : Totals} {t : Entry} {o : ℕ} → t.kind ≡ kind-of row → Alike t.expression (expression_of row) → end_in t.expression ≡ end_of w.parts (expression_of row)
+    → Sized (expression_of row) (large_in t.expression) (start_in t.expression)
     → Adds w t o r → Tallied rows w → Tallied (rows ++ (row ∷ [])) r
-tallied_more {rows} row {w} {r} {t} ek ee z a h =
+tallied_more {rows} row {w} {r} {t} ek al ee z a h =
     let kinds : (k : ℕ) → of_kind k (rows ++ (row ∷ [])) ≡ of_kind k rows + one t.kind k = λ k. kind_snoc k rows row ∙ ap (λ (j : ℕ). of_kind k rows + one j k) (sym ek) in
-    let b = subst (λ (xs : List Outermost). Best xs (w.large || t.large) (cond t.large (least w.large w.place t.start) w.place)) (sym (expressions_snoc rows row))
-    (best_more w.large t.large (record { some = h.some; least = h.least; none = h.none }) z) in
-    let b' = subst (λ (a : Bool). Best (row_expressions (rows ++ (row ∷ []))) a (cond t.large (least w.large w.place t.start) w.place)) (sym a.large) b in
+    let b = subst (λ (xs : List Outermost). Best xs (w.large || (large_in t.expression)) (cond (large_in t.expression) (least w.large w.place (start_in t.expression)) w.place)) (sym (expressions_snoc rows row))
+    (best_more w.large (large_in t.expression) (record { some = h.some; least = h.least; none = h.none }) z) in
+    let b' = subst (λ (a : Bool). Best (row_expressions (rows ++ (row ∷ []))) a (cond (large_in t.expression) (least w.large w.place (start_in t.expression)) w.place)) (sym a.large) b in
     let b'' = subst (Best (row_expressions (rows ++ (row ∷ []))) r.large) (sym a.place) b' in
     record {
       count = let n = length-append rows (row ∷ []) in let c = h.count in let d = a.rows in omega arith;
-      parts = let n = sizes_snoc rows row in let c = h.parts in let d = a.parts in let e = then_is w.parts t.end (expression_of row) ee in omega arith;
+      parts = let n = sizes_snoc rows row in let c = h.parts in let d = a.parts in let e = then_is w.parts t.expression (expression_of row) al ee in omega arith;
       tasks = let x = kinds 49 in let y = kinds 1 in let v = kinds 26 in let c = h.tasks in let d = a.tasks in omega arith;
       items = let x = kinds 18 in let c = h.items in let d = a.items in omega arith;
       assignments = let x = kinds 81 in let c = h.assignments in let d = a.assignments in omega arith;
@@ -139,7 +143,7 @@ tallied_more {rows} row {w} {r} {t} ek ee z a h =
       none = b''.none;
     }
 
-pub adds_own : {w r : Totals} {t : Passed} {o : ℕ} → Adds w t o r → Adds w t r.bytes r
+pub adds_own : {w r : Totals} {t : Entry} {o : ℕ} → Adds w t o r → Adds w t r.bytes r
 adds_own a = record {
   ok = a.ok;
   rows = a.rows;
@@ -161,18 +165,16 @@ one_low k j = ⊎_elim (λ (q : eqb k j ≡ true). rw q (omega arith)) (λ (q : 
 pub bound_small : {w : Totals} {p : ℕ} → p ≤ token_limit → Bound w p → Small w
 bound_small l b = let r = b.rows in record { rows = omega arith; tasks = b.tasks; items = b.items; assignments = b.assignments; sources = b.sources }
 
-pub bound_next : {text places lengths x y k l j b d : List ℕ} {p : ℕ} {w r : Totals} {t : Passed} → Went k l p w.parts t → Writes text places lengths x y l j b d w t r → Bound w p → Bound r t.next
-bound_next {p = p} {w} {r} {t} went q b = ⊎_elim
-    (λ (h : t.row ≡ true).
-    let a = q.adds h in
+bound_by : {text places lengths x y l j b d : List ℕ} {p n : ℕ} {w r : Totals} (o : Maybe Entry) → p < n → parts_then w.parts o ≤ n → Writes text places lengths x y l j b d w o r → Bound w p → Bound r n
+bound_by {n = n} None h f q b =
+    let b1 = b.rows in
+    subst (λ (v : Totals). Bound v n) (sym q.none.0) (record { rows = omega arith; parts = omega arith; tasks = b.tasks; items = b.items; assignments = b.assignments; sources = b.sources })
+bound_by (Some t) h f q b =
+    let a = q.some.adds in
     let a1 = a.rows in let a2 = a.parts in let a3 = a.tasks in let a4 = a.items in let a5 = a.assignments in let a6 = a.sources in
     let b1 = b.rows in let b3 = b.tasks in let b4 = b.items in let b5 = b.assignments in let b6 = b.sources in
     let o1 = one_low t.kind 49 in let o2 = one_low t.kind 1 in let o3 = one_low t.kind 26 in let o4 = one_low t.kind 18 in let o5 = one_low t.kind 81 in let o6 = one_low t.kind 60 in
-    let n = went.on in
-    let f = went.few in
-    record { rows = omega arith; parts = omega arith; tasks = omega arith; items = omega arith; assignments = omega arith; sources = omega arith })
-    (λ (h : t.row ≡ false).
-    let n = went.on in
-    let b1 = b.rows in let b2 = b.parts in
-    subst (λ (v : Totals). Bound v t.next) (sym (q.none h).0) (record { rows = omega arith; parts = omega arith; tasks = b.tasks; items = b.items; assignments = b.assignments; sources = b.sources }))
-    (two t.row)
+    record { rows = omega arith; parts = omega arith; tasks = omega arith; items = omega arith; assignments = omega arith; sources = omega arith }
+
+pub bound_next : {text places lengths x y k l j b d : List ℕ} {p : ℕ} {w r : Totals} {t : Passed} → Went k l p w.parts t → Writes text places lengths x y l j b d w t.row r → Bound w p → Bound r t.next
+bound_next {t = t} went q b = bound_by t.row went.on went.few q b

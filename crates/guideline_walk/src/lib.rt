@@ -10,7 +10,8 @@ ghost use Rattle.std.specs.Prelude.{◌≡◌, false};
 ghost use Rattle.leaves.specs.Source.{source};
 ghost use Rattle.guideline_walk.specs.Made.{Small, Writes, Walks};
 
-use guideline_turns::{Mode, Passed, step};
+use guideline_turns::{Entry, Mode, step};
+use leaves::Tokens;
 
 // What the rows passed amount to.
 #[derive(Clone, Copy)]
@@ -48,23 +49,21 @@ fn stuck() -> Totals
 
 // Writes the row that a turn gave, if any, with its name and the texts of its expression, and adds it up.
 fn write(
-    text: &[u8],
-    places: &[usize],
-    lengths: &[usize],
+    tokens: Tokens,
     rows: &mut [u32],
     cells: &mut [u32],
     bytes: &mut [u8],
     w: Totals,
-    t: Passed,
+    row: Option<Entry>,
 ) -> Totals
     requires { Small w }
-    ensures { Writes text.now places.now lengths.now rows.old rows.new cells.old cells.new bytes.old bytes.new w t result }
+    ensures { Writes tokens.entry.text.now tokens.entry.places.now tokens.entry.lengths.now rows.old rows.new cells.old cells.new bytes.old bytes.new w row result }
 {
-    if !t.row {
+    let Some(t) = row else {
         return w;
-    }
-    let m = texts::move_name(text, places, lengths, bytes, t.named, t.name, w.bytes);
-    let o = texts::move_texts(text, cells, bytes, t.first, t.end, m.behind);
+    };
+    let m = texts::move_name(tokens, bytes, t.name, w.bytes);
+    let o = texts::move_texts(tokens.text, cells, bytes, t.expression, m.behind);
     table::put(rows, w.rows, t, m.handle);
     adding::add(w, t, o)
 }
@@ -81,6 +80,12 @@ pub fn walk(
 ) -> Totals
     ensures { Walks (source text.now kinds.now places.now lengths.now) rows.old rows.new cells.old cells.new bytes.old bytes.new result }
 {
+    let tokens = Tokens {
+        text,
+        kinds,
+        places,
+        lengths,
+    };
     let mut w = Totals {
         ok: true,
         rows: 0,
@@ -94,13 +99,12 @@ pub fn walk(
         place: 0,
     };
     let mut p = 0;
-    let mut mode = Mode::ROW;
+    let mut mode = Mode::Row;
     while p < kinds.len() {
-        let t = step(text, kinds, places, lengths, cells, p, mode, w.parts);
-        if !t.ok {
+        let Some(t) = step(tokens, cells, p, mode, w.parts) else {
             return stuck();
-        }
-        w = write(text, places, lengths, rows, cells, bytes, w, t);
+        };
+        w = write(tokens, rows, cells, bytes, w, t.row);
         p = t.next;
         mode = t.mode;
     }

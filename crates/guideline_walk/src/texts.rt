@@ -3,6 +3,8 @@ ghost use Rattle.std.specs.Prelude.{◌≡◌};
 ghost use Rattle.guideline_walk.specs.Made.{SpellsName, MovesName, MovesTexts};
 
 use guideline_rows::spelt;
+use guideline_turns::{Extent, Label};
+use leaves::Tokens;
 use leaves::names::Span;
 use limits::Guideline;
 use parts::HANDLE;
@@ -16,36 +18,28 @@ pub struct Moved {
 }
 
 // The name that the token `j` is, without its quotes.
-fn name_at(text: &[u8], places: &[usize], lengths: &[usize], j: usize) -> Span
-    ensures { SpellsName text.now places.now lengths.now j result }
+fn name_at(tokens: Tokens, j: usize) -> Span
+    ensures { SpellsName tokens.entry.text.now tokens.entry.places.now tokens.entry.lengths.now j result }
 {
-    let s = spelt(text, places, lengths, j);
-    if Guideline::LIMIT < text.len() || HANDLE <= s.n {
+    let s = spelt(tokens, j);
+    if Guideline::LIMIT < tokens.text.len() || HANDLE <= s.n {
         Span { at: 0, n: 0 }
     } else {
         s
     }
 }
 
-// Moves the name that the token `j` is, if the row has one, to the bytes from `o` on.
-pub fn move_name(
-    text: &[u8],
-    places: &[usize],
-    lengths: &[usize],
-    bytes: &mut [u8],
-    named: bool,
-    j: usize,
-    o: usize,
-) -> Moved
-    ensures { MovesName text.now places.now lengths.now bytes.old bytes.new named j o result }
+// Moves the name of a row, if it has one, to the bytes from `o` on.
+pub fn move_name(tokens: Tokens, bytes: &mut [u8], name: Option<Label>, o: usize) -> Moved
+    ensures { MovesName tokens.entry.text.now tokens.entry.places.now tokens.entry.lengths.now bytes.old bytes.new name o result }
 {
-    if !named {
+    let Some(name) = name else {
         return Moved {
             handle: 0,
             behind: o,
         };
-    }
-    let s = name_at(text, places, lengths, j);
+    };
+    let s = name_at(tokens, name.token);
     let n = s.n;
     if !room(bytes.len(), o, n) {
         return Moved {
@@ -53,27 +47,25 @@ pub fn move_name(
             behind: NOWHERE,
         };
     }
-    copy(text, s.at, n, bytes, o);
+    copy(tokens.text, s.at, n, bytes, o);
     Moved {
         handle: (o * HANDLE + n) as u32,
         behind: o + n,
     }
 }
 
-// Moves the texts of the parts from `first` up to `end`, if there are any, to the bytes from `o` on. Answers the place behind them.
+// Moves the texts of an expression's parts, if there is one, to the bytes from `o` on. Answers the place behind them.
 pub fn move_texts(
     text: &[u8],
     cells: &mut [u32],
     bytes: &mut [u8],
-    first: usize,
-    end: usize,
+    expression: Option<Extent>,
     o: usize,
 ) -> usize
-    ensures { MovesTexts text.now cells.old cells.new bytes.old bytes.new first end o result }
+    ensures { MovesTexts text.now cells.old cells.new bytes.old bytes.new expression o result }
 {
-    if end == 0 {
-        o
-    } else {
-        gather(text, cells, first, end, bytes, o)
+    match expression {
+        Some(e) => gather(text, cells, e.first, e.end, bytes, o),
+        None => o,
     }
 }

@@ -3,6 +3,7 @@ use Rattle.std.specs.Prelude.{ℕ, suc, ◌+◌, ◌<◌, ◌≤◌, ◌≡◌, 
 use Rattle.paper_tokens.specs.Lexical.{Token, part}
 use Rattle.paper_tokens.specs.Terminals.{Terminal}
 use Rattle.paper_guideline.specs.Refusals.{TokenBreach}
+use Rattle.leaves.specs.declared.Tokens.{Tokens}
 
 -- a text, and for each of its tokens the terminal, the place and the length
 pub record Source : Type 0 where
@@ -13,6 +14,10 @@ pub record Source : Type 0 where
 
 abbrev pub source : List ℕ → List ℕ → List ℕ → List ℕ → Source
 source t k p n = record { text = t; kinds = k; places = p; lengths = n }
+
+-- as the program has it
+abbrev pub source_of : Tokens → Source
+source_of t = source t.text.now t.kinds.now t.places.now t.lengths.now
 
 -- the token i of the columns is t
 pub record Here (c : Source) (i : ℕ) (t : Token) : Type 0 where

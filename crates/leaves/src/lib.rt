@@ -24,6 +24,31 @@ pub fn cell(col: &[usize], p: usize) -> usize
     if p < col.len() { col[p] } else { 0 }
 }
 
+// A text, and for each of its tokens the terminal, the place and the length.
+#[derive(Clone, Copy)]
+pub struct Tokens<'a> {
+    pub text: &'a [u8],
+    pub kinds: &'a [u8],
+    pub places: &'a [usize],
+    pub lengths: &'a [usize],
+}
+
+impl<'a> Tokens<'a> {
+    // Where the token `p` stands; 0 past the last.
+    pub fn place(self, p: usize) -> usize
+        ensures { result ≡ get_or self.entry.places.now p 0 }
+    {
+        cell(self.places, p)
+    }
+
+    // How long it is.
+    pub fn length(self, p: usize) -> usize
+        ensures { result ≡ get_or self.entry.lengths.now p 0 }
+    {
+        cell(self.lengths, p)
+    }
+}
+
 // Whether the `n` bytes from `at` on are in a text.
 pub fn fits(text: &[u8], at: usize, n: usize) -> bool
     ensures { (result ≡ true → at + n ≤ length text.now) × (at + n ≤ length text.now → result ≡ true) }

@@ -3,7 +3,7 @@ ghost use Rattle.digits.specs.Appends.{Appends};
 ghost use Rattle.season_answer.specs.Fields.{label_written, labels_written, no_label_written, no_labels_written};
 
 use crate::found::Column;
-use crate::room::{field as put_field, nothing};
+use crate::room::{each, field as put_field, nothing};
 use blocks::cell;
 use separated::field;
 
@@ -26,7 +26,6 @@ fn label(
 }
 
 // Those of the first `many` columns.
-#[tactic(auto, using(crate::specs::FieldsLaws::turn_none, crate::specs::FieldsLaws::turn_more))]
 pub fn labels(
     columns: &[u32],
     many: usize,
@@ -38,11 +37,12 @@ pub fn labels(
 ) -> usize
     ensures { Appends out.old out.new o result (labels_written columns.now many kept.now ends.now separator) }
 {
-    let mut p = o;
-    for i in 0..many {
-        p = label(columns, kept, ends, i, separator, out, p);
-    }
-    p
+    each(
+        many,
+        |i, out, o| label(columns, kept, ends, i, separator, out, o),
+        out,
+        o,
+    )
 }
 
 // The same of a line that can't be read: nothing in their place.
@@ -56,13 +56,13 @@ fn no_label(columns: &[u32], i: usize, separator: u8, out: &mut [u8], o: usize) 
     }
 }
 
-#[tactic(auto, using(crate::specs::FieldsLaws::turn_none, crate::specs::FieldsLaws::turn_more))]
 pub fn no_labels(columns: &[u32], many: usize, separator: u8, out: &mut [u8], o: usize) -> usize
     ensures { Appends out.old out.new o result (no_labels_written columns.now many separator) }
 {
-    let mut p = o;
-    for i in 0..many {
-        p = no_label(columns, i, separator, out, p);
-    }
-    p
+    each(
+        many,
+        |i, out, o| no_label(columns, i, separator, out, o),
+        out,
+        o,
+    )
 }

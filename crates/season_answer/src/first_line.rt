@@ -7,7 +7,7 @@ ghost use Rattle.season_answer.specs.Fields.{field_written, names_written, headi
 use crate::called::name;
 use crate::copied::labels;
 use crate::found::count;
-use crate::room::{field, front, last};
+use crate::room::{each, field, front, last};
 use state::{Plan, cell};
 
 // As many bytes as a handle can tell.
@@ -22,16 +22,16 @@ fn item(texts: &[u8], h: usize, separator: u8, out: &mut [u8], o: usize) -> usiz
 }
 
 // The names of the data items.
-#[tactic(auto, using(crate::specs::FieldsLaws::turn_none, crate::specs::FieldsLaws::turn_more))]
 fn items(plan: &[u32], texts: &[u8], separator: u8, out: &mut [u8], o: usize) -> usize
     ensures { Appends out.old out.new o result (names_written plan.now texts.now (item_count plan.now) separator) }
 {
     let n = count(plan);
-    let mut p = o;
-    for d in 0..n {
-        p = item(texts, cell(plan, Plan::ITEM_NAME, d), separator, out, p);
-    }
-    p
+    each(
+        n,
+        |d, out, o| item(texts, cell(plan, Plan::ITEM_NAME, d), separator, out, o),
+        out,
+        o,
+    )
 }
 
 // The names of the labels as the sheet has them, those of the data items as the guideline has them, and what the answer adds.

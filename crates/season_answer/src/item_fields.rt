@@ -7,7 +7,7 @@ ghost use Rattle.digits.specs.Appends.{Appends};
 ghost use Rattle.season_answer.specs.Fields.{no_bytes, EmptyText, value_field, item_written, values_written, blanks_written};
 
 use crate::found::count;
-use crate::room::{empty_text, field, front, nothing};
+use crate::room::{each, empty_text, field, front, nothing};
 use values::{Scalar, Value};
 
 // The most bytes of a value that cells show: 16 texts of 63 bytes, with a comma and a blank between them, and two brackets.
@@ -50,7 +50,6 @@ fn item(texts: &[u8], state: &[u32], d: usize, separator: u8, out: &mut [u8], o:
 }
 
 // The values of all.
-#[tactic(auto, using(crate::specs::FieldsLaws::turn_none, crate::specs::FieldsLaws::turn_more))]
 pub fn item_values(
     plan: &[u32],
     texts: &[u8],
@@ -62,22 +61,18 @@ pub fn item_values(
     ensures { Appends out.old out.new o result (values_written plan.now texts.now state.now separator) }
 {
     let n = count(plan);
-    let mut p = o;
-    for d in 0..n {
-        p = item(texts, state, d, separator, out, p);
-    }
-    p
+    each(
+        n,
+        |d, out, o| item(texts, state, d, separator, out, o),
+        out,
+        o,
+    )
 }
 
 // Of a line that did not run: no value of any.
-#[tactic(auto, using(crate::specs::FieldsLaws::turn_none, crate::specs::FieldsLaws::turn_more))]
 pub fn blanks(plan: &[u32], separator: u8, out: &mut [u8], o: usize) -> usize
     ensures { Appends out.old out.new o result (blanks_written (item_count plan.now) separator) }
 {
     let n = count(plan);
-    let mut p = o;
-    for _d in 0..n {
-        p = nothing(separator, out, p);
-    }
-    p
+    each(n, |_d, out, o| nothing(separator, out, o), out, o)
 }

@@ -1,7 +1,7 @@
 // The fields of a line.
-ghost use Rattle.std.specs.Prelude.{◌≡◌, ◌≤◌, length, take};
+ghost use Rattle.std.specs.Prelude.{◌≡◌, ◌≤◌, ◌<◌, ℕ, List, length, take};
 ghost use Rattle.digits.specs.Appends.{Appends};
-ghost use Rattle.season_answer.specs.Fields.{field_written, last_written, nothing_written, empty_written};
+ghost use Rattle.season_answer.specs.Fields.{each as each_of, field_written, last_written, nothing_written, empty_written};
 
 use digits::byte;
 use separated::{put, quoted};
@@ -53,4 +53,21 @@ pub fn last(f: &[u8], separator: u8, out: &mut [u8], o: usize) -> usize
 {
     let p = put(f, separator, out, o);
     byte(b'\n', out, p)
+}
+
+// What `one` appends for each number below `n`, one behind the other.
+pub fn each<F: Fn(usize, &mut [u8], usize) -> usize>(
+    n: usize,
+    one: F,
+    out: &mut [u8],
+    o: usize,
+) -> usize
+    requires { (i : ℕ) (s : _) (p : _) → i < n → F.pre one i s p }
+    ensures { (w : ℕ → List ℕ) → ((i : ℕ) (s : _) (p r : ℕ) (t : _) → i < n → F.post one i s p r t → Appends s.now t.now p r (w i)) → Appends out.old out.new o result (each_of w 0 n) }
+{
+    let mut p = o;
+    for i in 0..n {
+        p = one(i, out, p);
+    }
+    p
 }

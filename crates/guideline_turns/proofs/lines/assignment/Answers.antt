@@ -8,13 +8,12 @@ use Rattle.guideline_turns.proofs.lines.assignment.Goals as goal
 pub returns-then-not-e : goal.returns-then-not-e
 returns-then-not-e c =
     record {
-      onward = λ e. contra (sym c.stuck.ensures ∙ e);
+      onward = tt;
       done = λ w r m rs f x. contra (sym (not-true _ c.if-not-e.true) ∙ assignment_read f c.read-e.ensures x);
     }
 
 pub returns : goal.returns
-returns c =
-    rw c.on.ensures (record {
-      onward = λ e. read_went _ c.requires.0 c.requires.1 (c.read-e.ensures.onward (not-false _ c.if-not-e.false)) refl (omega arith);
-      done = λ w r m rs f x. assignment_gives f _ _ _ c.cell.ensures c.cell-2.ensures c.read-e.ensures c.large.ensures x;
-    })
+returns c = rw c.label.ensures (record {
+  onward = read_went _ c.requires.0 c.requires.1 (c.read-e.ensures.onward (not-false _ c.if-not-e.false)) refl (omega arith);
+  done = λ w r m rs f x. assignment_gives f _ _ _ refl c.place.ensures c.read-e.ensures c.large.ensures x;
+})

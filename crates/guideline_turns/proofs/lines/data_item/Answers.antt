@@ -4,4 +4,4 @@ use Rattle.guideline_turns.specs.TurnLaws.{plain_went, data_gives}
 use Rattle.guideline_turns.proofs.lines.data_item.Goals as goal
 
 pub returns : goal.returns
-returns c = rw c.on.ensures (λ k u h. record { onward = λ e. plain_went k _ c.requires (omega arith) refl h; done = λ w r m rs f x. data_gives f _ _ c.cell.ensures c.declared.ensures x })
+returns c = λ k u h. rw c.label.ensures (record { onward = plain_went k _ c.requires (omega arith) refl h; done = λ w r m rs f x. data_gives f _ _ refl c.declared.ensures x })

@@ -1,7 +1,5 @@
 -- `line`: the letter of its first token tells what it is.
-use Rattle.std.proofs.Common.{sym, ap, subst, arith}
-use Rattle.guideline_rows.specs.Flat.{end_line}
-use Rattle.guideline_turns.specs.Made.{Passes}
+use Rattle.std.proofs.Common.{ap, arith}
 use Rattle.guideline_turns.specs.TurnLaws.{by_kind, told, of_letter, line_end, end_passes}
 use Rattle.guideline_turns.proofs.lines.line.Goals as goal
 
@@ -28,5 +26,5 @@ returns-in-112 c = by_kind c.kind_at.result c.kind_at.ensures (told c.kind_at.re
 
 pub returns-in_default : goal.returns-in_default
 returns-in_default c =
-    by_kind c.kind_at.result c.kind_at.ensures (told c.kind_at.result c.shape.ensures (line_end c.shape.result (λ z. omega arith) (λ z. omega arith) (λ z. omega arith) (λ z. omega arith) (λ z. omega arith) (λ z. omega arith) (λ z. omega arith)))
-    (subst (Passes end_line _ _ _ _ _) (sym c.on.ensures) (end_passes c.requires.0 _ _ c.requires.1))
+    rw c.on.ensures (by_kind c.kind_at.result c.kind_at.ensures (told c.kind_at.result c.shape.ensures (line_end c.shape.result (λ z. omega arith) (λ z. omega arith) (λ z. omega arith) (λ z. omega arith) (λ z. omega arith) (λ z. omega arith) (λ z. omega arith)))
+    (end_passes c.requires.0 _ _ c.requires.1))

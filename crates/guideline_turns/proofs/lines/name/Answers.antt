@@ -4,4 +4,4 @@ use Rattle.guideline_turns.specs.TurnLaws.{plain_went, name_gives}
 use Rattle.guideline_turns.proofs.lines.name.Goals as goal
 
 pub returns : goal.returns
-returns c = rw c.on.ensures (λ k u h. record { onward = λ e. plain_went k _ c.requires (omega arith) refl h; done = λ w r m rs f x. name_gives f _ _ _ c.kind_at.ensures c.cell.ensures c.cell-2.ensures x })
+returns c = λ k u h. rw c.label.ensures (record { onward = plain_went k _ c.requires (omega arith) refl h; done = λ w r m rs f x. name_gives f _ _ _ c.kind_at.ensures c.place.ensures refl x })

@@ -20,6 +20,6 @@ returns c =
       items = omega arith;
       assignments = omega arith;
       sources = omega arith;
-      large = elim c.if-w.branch [ then-w w ↦ w.result-is ∙ rw w.if-w.true | else-w w ↦ w.result-is ∙ rw w.if-w.false ];
+      large = elim c.if-w.branch [ then-w w ↦ w.result-is ∙ rw w.if-w.true | else-w w ↦ w.result-is ∙ rw w.if-w.false w.large.ensures ];
       place = c.place.ensures;
     }

@@ -1,9 +1,9 @@
--- `move_texts`: what ends at 0 has no expression, and another is gathered.
+-- `move_texts`: the texts of an expression are gathered.
 use Rattle.guideline_walk.specs.TextLaws.{texts_none, texts_moved}
 use Rattle.guideline_walk.proofs.texts.move_texts.Goals as goal
 
-pub returns-then-end-eq0 : goal.returns-then-end-eq0
-returns-then-end-eq0 c = texts_none c.if-end-eq0.true
+pub returns-in-Some : goal.returns-in-Some
+returns-in-Some c = rw c.in-Some.is (texts_moved c.gather.ensures)
 
-pub returns-else-end-eq0 : goal.returns-else-end-eq0
-returns-else-end-eq0 c = texts_moved c.if-end-eq0.false c.gather.ensures
+pub returns-in-None : goal.returns-in-None
+returns-in-None c = rw c.in-None.is texts_none

@@ -1,9 +1,10 @@
--- `items`: no item is left.
-use Rattle.std.proofs.Common.{ℕ, sym, ap, arith}
+-- `items`: what a call appends, at each item.
+use Rattle.std.proofs.Common.{ℕ, sym, ap, rules}
 use Rattle.digits.specs.AppendsLaws.{appends_as}
-use Rattle.season_answer.specs.Fields.{names_written}
-use Rattle.season_answer.specs.FieldsLaws.{turn_all}
+use Rattle.season_answer.specs.Fields.{each, name_written}
 use Rattle.season_answer.proofs.first_line.items.Goals as goal
 
 pub returns : goal.returns
-returns c = appends_as (ap (λ (n : ℕ). names_written c.args.plan.now c.args.texts.now n c.args.separator) (sym c.count-n.ensures.0)) (turn_all c.loop-d.invariant (omega arith))
+returns c =
+    let w = name_written c.args.plan.now c.args.texts.now c.args.separator in
+    appends_as (ap (λ (n : ℕ). each w 0 n) (sym c.count-n.ensures.0)) (c.each.ensures w (λ i s p r t h q. search rules))

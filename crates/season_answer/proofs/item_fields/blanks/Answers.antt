@@ -1,9 +1,9 @@
--- `blanks`: no item is left.
-use Rattle.std.proofs.Common.{ℕ, sym, ap, arith}
+-- `blanks`: what a call appends, at each item.
+use Rattle.std.proofs.Common.{ℕ, sym, ap, rules}
 use Rattle.digits.specs.AppendsLaws.{appends_as}
-use Rattle.season_answer.specs.Fields.{blanks_written}
-use Rattle.season_answer.specs.FieldsLaws.{turn_all}
+use Rattle.season_answer.specs.Fields.{blanks_written, nothing_written}
 use Rattle.season_answer.proofs.item_fields.blanks.Goals as goal
 
 pub returns : goal.returns
-returns c = appends_as (ap (λ (n : ℕ). blanks_written n c.args.separator) (sym c.count-n.ensures.0)) (turn_all c.loop-d.invariant (omega arith))
+returns c =
+    appends_as (ap (λ (n : ℕ). blanks_written n c.args.separator) (sym c.count-n.ensures.0)) (c.each.ensures (λ (d : ℕ). nothing_written c.args.separator) (λ i s p r t h q. search rules))
