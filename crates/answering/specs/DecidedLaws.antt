@@ -1,12 +1,11 @@
 -- From load's answer to what is decided: no table is short, so a breach is one without short tables. And only one reply fits.
-use Rattle.std.specs.Prelude.{ℕ, ◌*◌, ◌≤◌, ◌≡◌, refl, List, length}
+use Rattle.std.specs.Prelude.{ℕ, ◌*◌, ◌≡◌, refl, List, length}
 use Rattle.std.proofs.Common.{subst}
 use Rattle.paper_expressions.proofs.Laws.Tests.{contra}
 use Rattle.paper_guideline.specs.Limits.{guideline_limit, part_limit}
 use Rattle.parts.specs.Part.{Table}
 use Rattle.limits.specs.Limits.{row_cells}
 use Rattle.answering.specs.declared.Answer.{Answer}
-use Rattle.answering.specs.declared.Answer.TheVariants as Answer
 use Rattle.answering.specs.Reply.{Reply, Answered}
 use Rattle.answering.specs.Stages.{never_both, swapped}
 use Rattle.stages.specs.Judged.{Short}

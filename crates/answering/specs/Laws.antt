@@ -1,5 +1,5 @@
 -- From what the tests of names and types find to the answer and the tables; and that only one reply fits.
-use Rattle.std.specs.Prelude.{ℕ, ◌≤◌, ◌≡◌, refl, List, length, replicate}
+use Rattle.std.specs.Prelude.{ℕ, ◌≤◌, ◌≡◌, refl, List, length, replicate, Option, Some, None}
 use Rattle.std.proofs.Common.{arith, sym, ap, subst, ◌∙◌}
 use Rattle.paper_guideline.specs.Limits.{task_limit}
 use Rattle.paper_guideline.specs.Structure.{TopLevel, tasks}
@@ -13,21 +13,16 @@ use Rattle.guideline_rows.specs.Encoded.{Encoded}
 use Rattle.guideline_rows.specs.LimitLaws.{in_limits}
 use Rattle.guideline_rows.specs.OneEncoding.{AsLong, one_encoding}
 use Rattle.row_names.specs.Shape.{structure_shaped}
-use Rattle.row_tests.specs.declared.Found.{Found}
-use Rattle.row_tests.specs.declared.Found.TheVariants as Found
 use Rattle.row_tests.specs.EncodedSheet.{encoded_agrees}
 use Rattle.names.specs.Verdict as Names
 use Rattle.types.specs.Judged as Types
 use Rattle.types.specs.Load.{within, rows_within, items_within, given_of}
-use Rattle.stages.specs.Stages.{Passed}
 use Rattle.stages.specs.Judged.{Short, is_short, Empty, Accepted}
 use Rattle.reading.specs.declared.Reading.{Reading}
-use Rattle.reading.specs.declared.Reading.TheVariants as Reading
 use Rattle.reading.specs.Reply as Reads
 use Rattle.reading.specs.Laws.{same_refusal}
 use Rattle.answering.specs.declared.Answer.{Answer}
-use Rattle.answering.specs.declared.Answer.TheVariants as Answer
-use Rattle.answering.specs.Reply.{Loaded, Reply, Answered, Passing, Outcome, Typed, Named}
+use Rattle.answering.specs.Reply.{Reply, Answered, Passing, Outcome, Typed, Named}
 use Rattle.answering.specs.Stages.{never_both, name_refused, name_passed, type_refused, type_passed}
 
 -- ---- what the limits give
@@ -42,12 +37,12 @@ module _ {S : Type 0} {text x : List ℕ} {t : Table} {n k : ℕ} {g : List TopL
   few_tasks : length (tasks g) ≤ task_limit
   few_tasks = within (λ l. limits (length text) (Refusals.many_tasks h.read l))
 
-  pub names_told : (r : Found) → Names.Judged x n t.bytes r → Names.ToldOf g r
+  pub names_told : (r : Option ℕ) → Names.Judged x n t.bytes r → Names.ToldOf g r
   names_told r j =
       let f = rows_within h.read h.count counts in
       j g (structure_shaped h.read.structure) (encoded_agrees h.encoded (in_limits h.read limits) h.count f) f few_tasks (items_within h.read limits)
 
-  pub types_told : (r : Found) → Types.Judged x n t r → ((p : ℕ) → ¬ NameBreach g p) → Types.ToldOf g r
+  pub types_told : (r : Option ℕ) → Types.Judged x n t r → ((p : ℕ) → ¬ NameBreach g p) → Types.ToldOf g r
   types_told r j none = j g (given_of h.read h.encoded h.count counts limits none)
 
 -- ---- 5
@@ -55,28 +50,28 @@ module _ {S : Type 0} {text x : List ℕ} {t : Table} {n k : ℕ} {g : List TopL
 names_fine : {S : Type 0} {text x : List ℕ} {t : Table} {n : ℕ} {g : List TopLevel} → Passing S text x t n 6 g → (p : ℕ) → ¬ NameBreach g p
 names_fine h p b = h.passed Refusals.name_stage p (omega arith) (Refusals.name_breach h.read b)
 
-module _ {x : List ℕ} {t : Table} {n : ℕ} (r : Found) (judged : Types.Judged x n t r) where
-  pub well_typed : r ≡ Found.Nowhere → Typed x t n x t (Answer.Loads n)
+module _ {x : List ℕ} {t : Table} {n : ℕ} (r : Option ℕ) (judged : Types.Judged x n t r) where
+  pub well_typed : r ≡ None → Typed x t n x t (Answer.Loads n)
   well_typed e =
       record {
         outcome = λ S text g h. (let k = subst (Types.ToldOf g) e (types_told h (omega arith) r judged (names_fine h)) in (type_passed h.read h.passed k, refl, refl, refl));
       }
 
-  pub ill_typed : {p : ℕ} {x' : List ℕ} {t' : Table} → r ≡ Found.At p → Empty x t x' t' → Typed x t n x' t' (Answer.Refused 5 p)
+  pub ill_typed : {p : ℕ} {x' : List ℕ} {t' : Table} → r ≡ Some p → Empty x t x' t' → Typed x t n x' t' (Answer.Refused 5 p)
   ill_typed e z =
       record { outcome = λ S text g h. (let k = subst (Types.ToldOf g) e (types_told h (omega arith) r judged (names_fine h)) in (type_refused h.read h.passed k.0 k.1, z)) }
 
 -- ---- 4
 
-module _ {x : List ℕ} {t : Table} {n : ℕ} (r : Found) (judged : Names.Judged x n t.bytes r) where
-  pub well_named : {x' : List ℕ} {t' : Table} {a : Answer} → r ≡ Found.Nowhere → Typed x t n x' t' a → Named x t n x' t' a
+module _ {x : List ℕ} {t : Table} {n : ℕ} (r : Option ℕ) (judged : Names.Judged x n t.bytes r) where
+  pub well_named : {x' : List ℕ} {t' : Table} {a : Answer} → r ≡ None → Typed x t n x' t' a → Named x t n x' t' a
   well_named e y =
       record {
         outcome = λ S text g h. (let k = subst (Names.ToldOf g) e (names_told h (omega arith) r judged) in
             y.outcome S text g (record { read = h.read; passed = name_passed h.read h.passed k; count = h.count; encoded = h.encoded }));
       }
 
-  pub ill_named : {p : ℕ} {x' : List ℕ} {t' : Table} → r ≡ Found.At p → Empty x t x' t' → Named x t n x' t' (Answer.Refused 4 p)
+  pub ill_named : {p : ℕ} {x' : List ℕ} {t' : Table} → r ≡ Some p → Empty x t x' t' → Named x t n x' t' (Answer.Refused 4 p)
   ill_named e z =
       record { outcome = λ S text g h. (let k = subst (Names.ToldOf g) e (names_told h (omega arith) r judged) in (name_refused h.read h.passed k.0 k.1, z)) }
 

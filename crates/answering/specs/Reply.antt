@@ -2,7 +2,6 @@
 use Rattle.std.specs.Prelude.{ℕ, ◌≡◌, Bool, true, List, length}
 use Rattle.paper_guideline.specs.Structure.{TopLevel}
 use Rattle.paper_guideline.specs.Refusals as Refusals
-use Rattle.paper_guideline.specs.Names.{NameBreach}
 use Rattle.parts.specs.Part.{Table}
 use Rattle.guideline_rows.specs.Rows.{flatten}
 use Rattle.guideline_rows.specs.Encoded.{Encoded}
@@ -10,7 +9,6 @@ use Rattle.guideline_rows.specs.OneEncoding.{AsLong}
 use Rattle.stages.specs.Stages.{Passed}
 use Rattle.stages.specs.Judged.{Short, Empty}
 use Rattle.answering.specs.declared.Answer.{Answer}
-use Rattle.answering.specs.declared.Answer.TheVariants as Answer
 
 -- the text loads, and the tables hold its structure, n rows, cell by cell
 pub record Loaded (text x : List ℕ) (t : Table) (x' : List ℕ) (t' : Table) (n : ℕ) : Type 0 where

@@ -8,7 +8,6 @@ ghost use Rattle.answering.specs.Reply.{Answered, Named, Typed};
 
 use limits::Refusal;
 use reading::Reading;
-use row_tests::Found;
 pub use verdict::{Verdict, decide};
 
 // How many rows there are, in the tables; or number and place of the refusal.
@@ -23,8 +22,8 @@ fn typed(rows: &mut [u32], cells: &mut [u32], bytes: &mut [u8], n: usize) -> Ans
     ensures { Typed rows.old (table cells.old bytes.old) n rows.new (table cells.new bytes.new) result }
 {
     match types::check(rows, n, cells, bytes) {
-        Found::Nowhere => Answer::Loads(n),
-        Found::At(place) => {
+        None => Answer::Loads(n),
+        Some(place) => {
             stages::blank(rows, cells, bytes);
             Answer::Refused(Refusal::TYPE, place)
         }
@@ -36,8 +35,8 @@ fn named(rows: &mut [u32], cells: &mut [u32], bytes: &mut [u8], n: usize) -> Ans
     ensures { Named rows.old (table cells.old bytes.old) n rows.new (table cells.new bytes.new) result }
 {
     match names::check(rows, n, bytes) {
-        Found::Nowhere => typed(rows, cells, bytes, n),
-        Found::At(place) => {
+        None => typed(rows, cells, bytes, n),
+        Some(place) => {
             stages::blank(rows, cells, bytes);
             Answer::Refused(Refusal::NAME, place)
         }
