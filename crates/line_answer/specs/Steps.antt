@@ -18,7 +18,6 @@ use Rattle.written.specs.Limit.{answer_limit}
 use Rattle.line_answer.specs.declared.tests.Verdict.{Verdict}
 use Rattle.line_answer.specs.declared.tests.Verdict.TheVariants.{Fine, Refused}
 use Rattle.line_answer.specs.declared.tests.Limited.{Limited}
-use Rattle.line_answer.specs.declared.tests.Limited.TheVariants as Limited
 use Rattle.line_answer.specs.Reply.{Answered}
 
 -- cells that are blank, and enough for every answer

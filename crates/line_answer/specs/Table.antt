@@ -1,5 +1,5 @@
 -- The part table of a line: the reader puts the tree there, over the line's own bytes, as the last step asks for. By what it promises.
-use Rattle.std.specs.Prelude.{ℕ, ◌+◌, ◌*◌, ◌≤◌, ◌<◌, ◌≡◌, List, length}
+use Rattle.std.specs.Prelude.{ℕ, ◌*◌, ◌≤◌, ◌<◌, ◌≡◌, List, length}
 use Rattle.std.proofs.Common.{arith, ⊎_elim}
 use Rattle.paper_guideline.specs.Tree.{anywhere}
 use Rattle.paper_guideline.specs.Limits.{guideline_limit, part_limit}

@@ -7,7 +7,7 @@ use Rattle.paper_guideline.proofs.Laws.RefusalLaws.{le_or_gt}
 use Rattle.paper_guideline.specs.Line.{LineAnswer, refused, LineAnswers, answer_written}
 use Rattle.paper_guideline.proofs.Laws.LineLaws.{one_line_answer}
 use Rattle.tokens.specs.declared.Read.{Read}
-use Rattle.tokens.specs.declared.Read.TheVariants.{Tokens, Refused, Short}
+use Rattle.tokens.specs.declared.Read.TheVariants.{Tokens, Refused}
 use Rattle.tokens.specs.Reply.{filled, blank, Reads}
 use Rattle.written.specs.Limit.{answer_limit}
 use Rattle.line_answer.specs.Reply.{Answered, Reply}

@@ -5,7 +5,6 @@ ghost use Rattle.line_answer.specs.Steps.{Lexed, Parsed, Parses, Fits};
 
 use grammar::{Answer, Start};
 use limits::{Expression, Expressions, Refusal};
-use token_tests::Found;
 use values::List;
 
 // What the tests find: nothing, or the number of the refusal.
@@ -37,8 +36,8 @@ pub fn parse(line: &[u8], kinds: &[u8], places: &[usize], lengths: &[usize]) -> 
         }
     }
     match token_tests::left_out(line, kinds, places, lengths) {
-        Found::At(_) => Verdict::Refused(Refusal::LEFT_OUT),
-        Found::Nowhere => Verdict::Fine,
+        Some(_) => Verdict::Refused(Refusal::LEFT_OUT),
+        None => Verdict::Fine,
     }
 }
 
@@ -54,11 +53,8 @@ pub fn fit(
     requires cells_len { length cells.old ≡ part_limit * 4 }
     ensures { Fits line.now cells.new result }
 {
-    match token_tests::past_limit(line, kinds, places, lengths) {
-        Found::At(_) => {
-            return Limited::Refused(Refusal::LIMIT);
-        }
-        Found::Nowhere => {}
+    if let Some(_) = token_tests::past_limit(line, kinds, places, lengths) {
+        return Limited::Refused(Refusal::LIMIT);
     }
     let m = expression_reader::read(line, kinds, places, lengths, 0, false, cells, 0);
     if Expression::DEPTH < m.depth {

@@ -13,7 +13,6 @@ use grammar::{Answer, Start};
 use leaves::cell;
 use limiting::over_limits;
 use limits::Refusal;
-use token_tests::Found;
 
 // The number of rows, or number and place of the refusal.
 #[derive(Drop)]
@@ -34,13 +33,13 @@ fn place_of(text: &[u8], kinds: &[u8], places: &[usize], i: usize) -> usize
 }
 
 // Refusal 3: the first token that no guideline can have there.
-fn first_bad(text: &[u8], kinds: &[u8], places: &[usize]) -> Found
+fn first_bad(text: &[u8], kinds: &[u8], places: &[usize]) -> Option<usize>
     ensures { Sentences text.now kinds.now places.now result }
 {
     match grammar::read(kinds, Start::Process) {
-        Answer::Accepted => Found::Nowhere,
-        Answer::Refused(i) => Found::At(place_of(text, kinds, places, i)),
-        Answer::Unread => Found::At(text.len()),
+        Answer::Accepted => None,
+        Answer::Refused(i) => Some(place_of(text, kinds, places, i)),
+        Answer::Unread => Some(text.len()),
     }
 }
 
@@ -68,11 +67,11 @@ fn within_limits(
     let short = room::short(rows.len(), cells.len(), bytes.len());
     let w = guideline_walk::walk(text, kinds, places, lengths, rows, cells, bytes);
     match over_limits(text, kinds, places, lengths, w, short) {
-        Found::At(p) => {
+        Some(p) => {
             blank(rows, cells, bytes);
             Verdict::Refused(Refusal::LIMIT, p)
         }
-        Found::Nowhere => Verdict::Fine(w.rows),
+        None => Verdict::Fine(w.rows),
     }
 }
 
@@ -88,17 +87,11 @@ pub fn judge(
 ) -> Verdict
     ensures { Judges text.now kinds.now places.now lengths.now rows.old (table cells.old bytes.old) rows.new (table cells.new bytes.new) result }
 {
-    match first_bad(text, kinds, places) {
-        Found::At(p) => {
-            return Verdict::Refused(Refusal::GRAMMAR, p);
-        }
-        Found::Nowhere => {}
+    if let Some(p) = first_bad(text, kinds, places) {
+        return Verdict::Refused(Refusal::GRAMMAR, p);
     }
-    match token_tests::left_out(text, kinds, places, lengths) {
-        Found::At(p) => {
-            return Verdict::Refused(Refusal::LEFT_OUT, p);
-        }
-        Found::Nowhere => {}
+    if let Some(p) = token_tests::left_out(text, kinds, places, lengths) {
+        return Verdict::Refused(Refusal::LEFT_OUT, p);
     }
     within_limits(text, kinds, places, lengths, rows, cells, bytes)
 }

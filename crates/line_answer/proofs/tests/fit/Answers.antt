@@ -3,8 +3,8 @@ use Rattle.line_answer.specs.Tests.{over, none_over, too_deep, too_long, too_man
 use Rattle.line_answer.specs.Table.{held}
 use Rattle.line_answer.proofs.tests.fit.Goals as goal
 
-pub returns-in-At : goal.returns-in-At
-returns-in-At c = record { fitted = over c.requires.parsed c.past_limit.ensures c.in-At.is }
+pub returns-in-Some : goal.returns-in-Some
+returns-in-Some c = record { fitted = over c.requires.parsed c.past_limit.ensures c.in-Some.is }
 
 pub returns-then-m-gt-DEPTH : goal.returns-then-m-gt-DEPTH
 returns-then-m-gt-DEPTH c = record { fitted = too_deep c.requires.parsed c.read-m.ensures c.if-m-gt-DEPTH.true }
@@ -20,7 +20,7 @@ returns c =
     record {
       fitted =
           held
-          (fitting c.requires.parsed c.read-m.ensures (none_over c.requires.parsed c.past_limit.ensures c.in-Nowhere.is) c.if-m-gt-DEPTH.false c.if-m-gt-LIST_LIMIT.false c.if-m-gt-PARTS.false)
+          (fitting c.requires.parsed c.read-m.ensures (none_over c.requires.parsed c.past_limit.ensures c.in_default.is) c.if-m-gt-DEPTH.false c.if-m-gt-LIST_LIMIT.false c.if-m-gt-PARTS.false)
           c.read-m.ensures
           c.requires.cells_len;
     }

@@ -8,8 +8,8 @@ returns-in-Refused c = not_read c.requires c.read.ensures c.in-Refused.is
 pub returns-in-Unread : goal.returns-in-Unread
 returns-in-Unread c = not_unread c.requires c.read.ensures c.in-Unread.is
 
-pub returns-in-At : goal.returns-in-At
-returns-in-At c = left_out c.requires (is_read c.requires c.read.ensures c.in-Accepted.is) c.left_out.ensures c.in-At.is
+pub returns-in-Some : goal.returns-in-Some
+returns-in-Some c = left_out c.requires (is_read c.requires c.read.ensures c.in-Accepted.is) c.left_out.ensures c.in-Some.is
 
-pub returns-in-Nowhere : goal.returns-in-Nowhere
-returns-in-Nowhere c = parsed c.requires (is_read c.requires c.read.ensures c.in-Accepted.is) c.left_out.ensures c.in-Nowhere.is
+pub returns-in-None : goal.returns-in-None
+returns-in-None c = parsed c.requires (is_read c.requires c.read.ensures c.in-Accepted.is) c.left_out.ensures c.in-None.is

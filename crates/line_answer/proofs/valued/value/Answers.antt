@@ -1,7 +1,6 @@
 -- `line::valued::value` meets its contract: no type, or a type and what has it.
 use mathlib.Core.Path.{refl}
 use Rattle.line_answer.specs.Valued.{without_type, with_type}
-use borrow.Author.Rules.{rules}
 use Rattle.line_answer.proofs.valued.value.Goals as goal
 
 pub returns-then-letter-eq0 : goal.returns-then-letter-eq0
