@@ -11,7 +11,6 @@ use Rattle.stages.specs.Judged.{is_short}
 use Rattle.opening.specs.Opened.{Opened, Opens}
 use Rattle.plan.specs.Filled.{Filled, Fills}
 use Rattle.load.specs.declared.Reply.{Reply}
-use Rattle.load.specs.declared.Reply.TheVariants as Reply
 
 -- ---- the lent tables
 

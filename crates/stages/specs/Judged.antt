@@ -1,5 +1,5 @@
 -- What the tests from the grammar to the limits have to find: each test alone, and all in their order. Definitions only.
-use Rattle.std.specs.Prelude.{ℕ, ◌*◌, ◌≤◌, ◌<◌, ◌≡◌, Bool, true, false, ◌||◌, List, ltb, length, get_or, Option, Some, None}
+use Rattle.std.specs.Prelude.{ℕ, ◌*◌, ◌≤◌, ◌<◌, ◌≡◌, Bool, true, false, ◌||◌, List, ltb, length, get_or, Option, Some, None, Result, Ok, Err}
 use Rattle.std.proofs.Math.Option.{Option as Maybe, none, some}
 use Rattle.paper_guideline.specs.Limits.{guideline_limit, token_limit, task_limit, data_item_limit, part_limit, assignment_limit, source_limit}
 use Rattle.paper_grammar.specs.Nonterminals.{⟨process⟩}
@@ -17,8 +17,7 @@ use Rattle.guideline_rows.specs.Encoded.{Encoded}
 use Rattle.guideline_rows.specs.OneEncoding.{AsLong}
 use Rattle.guideline_walk.specs.declared.Totals.{Totals}
 use Rattle.guideline_walk.specs.Surveyed.{Surveyed}
-use Rattle.stages.specs.declared.Verdict.{Verdict}
-use Rattle.stages.specs.declared.Verdict.TheVariants.{Fine, Refused}
+use Rattle.stages.specs.declared.Refused.{Refused}
 use Rattle.stages.specs.Least.{Least}
 use Rattle.stages.specs.Stages.{Passed, Turned}
 use Rattle.stages.specs.Limits.{Over}
@@ -103,15 +102,19 @@ pub record Accepted (text x : List ℕ) (t : Table) (x' : List ℕ) (t' : Table)
   pub long : AsLong x' x t' t
   pub encoded : Encoded (flatten guideline) x' t'
 
+-- a refusal by its number and place
+abbrev pub refusal : ℕ → ℕ → Refused
+refusal n p = record { number = n; place = p }
+
 -- the tables x, t before, and x', t' after
-abbrev pub Outcome : List ℕ → List ℕ → Table → List ℕ → Table → Verdict → Type 0
-Outcome text x t x' t' (Fine n) = Accepted text x t x' t' n
-Outcome text x t x' t' (Refused n p) = Turned (Short x t) text n p × Empty x t x' t'
+abbrev pub Outcome : List ℕ → List ℕ → Table → List ℕ → Table → Result ℕ Refused → Type 0
+Outcome text x t x' t' (Ok n) = Accepted text x t x' t' n
+Outcome text x t x' t' (Err r) = Turned (Short x t) text r.number r.place × Empty x t x' t'
 
 -- over blank tables, where the tokens are a guideline of which nothing is left out
-pub record Limited (text kinds places lengths x : List ℕ) (t : Table) (x' : List ℕ) (t' : Table) (r : Verdict) : Type 0 where
+pub record Limited (text kinds places lengths x : List ℕ) (t : Table) (x' : List ℕ) (t' : Table) (r : Result ℕ Refused) : Type 0 where
   pub outcome : (l : Lexed text kinds places lengths) (g : List TopLevel) → Structure l.tokens g → Passed (Short x t) text 4 → Empty x t x t → Outcome text x t x' t' r
 
 -- over blank tables
-pub record Judges (text kinds places lengths x : List ℕ) (t : Table) (x' : List ℕ) (t' : Table) (r : Verdict) : Type 0 where
+pub record Judges (text kinds places lengths x : List ℕ) (t : Table) (x' : List ℕ) (t' : Table) (r : Result ℕ Refused) : Type 0 where
   pub outcome : Lexed text kinds places lengths → Empty x t x t → Outcome text x t x' t' r

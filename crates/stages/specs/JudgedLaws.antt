@@ -1,5 +1,5 @@
 -- From what each test finds to the outcome of all: the smallest of the three places of the limits, and the stages in their order.
-use Rattle.std.specs.Prelude.{ℕ, zero, suc, ◌+◌, ◌*◌, ◌≤◌, ◌<◌, ◌≡◌, refl, Bool, true, false, ◌||◌, List, [], ◌∷◌, leb, ltb, length, get_or, replicate, Option, Some, None}
+use Rattle.std.specs.Prelude.{ℕ, zero, suc, ◌+◌, ◌*◌, ◌≤◌, ◌<◌, ◌≡◌, refl, Bool, true, false, ◌||◌, List, [], ◌∷◌, leb, ltb, length, get_or, replicate, Option, Some, None, Result, Ok, Err}
 use Rattle.std.proofs.Common.{arith, sym, ap, subst, ◌∙◌, ⊎_elim, leb-true, leb-false, le-leb, ltb-true, ltb-false, lt-ltb}
 use Rattle.std.proofs.lemmas.Bool.{lt-leb}
 use Rattle.paper_expressions.proofs.Laws.Tests.{two}
@@ -27,13 +27,12 @@ use Rattle.guideline_walk.specs.Made.{Given, Walks, Walked, Roomy}
 use Rattle.guideline_walk.specs.Encodes.{laid_encoded}
 use Rattle.guideline_walk.specs.Surveyed.{Surveyed, surveyed, all_parts}
 use Rattle.token_tests.specs.Reply.{First, OverLimit}
-use Rattle.stages.specs.declared.Verdict.{Verdict}
-use Rattle.stages.specs.declared.Verdict.TheVariants.{Fine, Refused}
+use Rattle.stages.specs.declared.Refused.{Refused}
 use Rattle.stages.specs.Least.{Least, least, Either, least_either}
 use Rattle.stages.specs.Stages.{Passed, PlaceOf, of_token, of_end, early_passed, grammar_refused, grammar_passed, left_out_refused, left_out_passed}
 use Rattle.stages.specs.Limits.{CountOver, tasks_over, data_items_over, parts_over, assignments_over, sources_over, short_over, WholeOver, Over, limit_refused, limit_passed}
 use Rattle.columns.specs.Columns.{Lexed}
-use Rattle.stages.specs.Judged.{spot, Places, Sentences, Large, SomeOver, tasks, items, parts, assignments, sources, tables, NoneOver, AnyOver, Whole, OverLimits, is_short, Short, Empty, Limited, Judges}
+use Rattle.stages.specs.Judged.{spot, Places, Sentences, Large, SomeOver, tasks, items, parts, assignments, sources, tables, NoneOver, AnyOver, Whole, OverLimits, is_short, Short, Empty, refusal, Limited, Judges}
 use Rattle.columns.specs.Clean.{clean}
 use Rattle.paper_guideline.specs.Parts.{expressions}
 
@@ -178,7 +177,7 @@ same_empty a b c e = record { rows = e.rows ∙ ap (λ (n : ℕ). replicate n 0)
 -- ---- the outcome
 
 module _ (text kinds places lengths x : List ℕ) (t : Table) where
-  pub bad_token : (p : ℕ) → Sentences text kinds places (Some p) → Judges text kinds places lengths x t x t (Refused 3 p)
+  pub bad_token : (p : ℕ) → Sentences text kinds places (Some p) → Judges text kinds places lengths x t x t (Err (refusal 3 p))
   bad_token p s = record {
     outcome = λ l e.
         let b = s (few_kinds l) in (
@@ -191,14 +190,14 @@ module _ (text kinds places lengths x : List ℕ) (t : Table) where
   sentence_passed : (l : Lexed text kinds places lengths) → SentenceOf ⟨process⟩ kinds → Passed (Short x t) text 3
   sentence_passed l d = grammar_passed (Short x t) text l.its l.are (early_passed (Short x t) text l.passed) d
 
-  pub left_out_there : (p : ℕ) → SentenceOf ⟨process⟩ kinds → First LeftOut (source text kinds places lengths) (Some p) → Judges text kinds places lengths x t x t (Refused 10 p)
+  pub left_out_there : (p : ℕ) → SentenceOf ⟨process⟩ kinds → First LeftOut (source text kinds places lengths) (Some p) → Judges text kinds places lengths x t x t (Err (refusal 10 p))
   left_out_there p d f = record {
     outcome = λ l e.
         let h = f l.tokens l.its l.stand in
         (left_out_refused (Short x t) text l.its l.are (sentence_passed l d) h.0 h.1, e);
   }
 
-  pub nothing_left_out : {y : List ℕ} {u : Table} {r : Verdict} → SentenceOf ⟨process⟩ kinds → First LeftOut (source text kinds places lengths) None
+  pub nothing_left_out : {y : List ℕ} {u : Table} {r : Result ℕ Refused} → SentenceOf ⟨process⟩ kinds → First LeftOut (source text kinds places lengths) None
       → Limited text kinds places lengths x t y u r → Judges text kinds places lengths x t y u r
   nothing_left_out d f m = record {
     outcome = λ l e.
@@ -218,7 +217,7 @@ module _ {text kinds places lengths x y k l b d : List ℕ} {w : Totals} {short 
       subst (λ (q : Bool). Least (Over (q ≡ true) text v.its s) (spot r)) es (h v.tokens g v.its v.stand s (surveyed g (walked v g s).tally))
 
   pub past_limit : {y' l' d' : List ℕ} (p : ℕ) → OverLimits text kinds places lengths w short (Some p) → length y ≡ length x → length l ≡ length k → length d ≡ length b → Empty y (table l d) y' (table l' d')
-      → Limited text kinds places lengths x (table k b) y' (table l' d') (Refused 6 p)
+      → Limited text kinds places lengths x (table k b) y' (table l' d') (Err (refusal 6 p))
   past_limit p h ly ll ld e = record { outcome = λ v g s before blank. (limit_refused (Short x (table k b)) text v.its s before (by_tables (Some p) h v g s), same_empty ly ll ld e) }
 
   -- there is room for a guideline that breaks no limit
@@ -241,7 +240,7 @@ module _ {text kinds places lengths x y k l b d : List ℕ} {w : Totals} {short 
       }
 
   pub all_within : OverLimits text kinds places lengths w short None → length y ≡ length x → length l ≡ length k → length d ≡ length b
-      → Limited text kinds places lengths x (table k b) y (table l d) (Fine w.rows)
+      → Limited text kinds places lengths x (table k b) y (table l d) (Ok w.rows)
   all_within h ly ll ld = record {
     outcome = λ v g s before e.
         let passed = limit_passed (Short x (table k b)) text v.its s before (by_tables None h v g s) in

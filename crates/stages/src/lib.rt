@@ -14,11 +14,11 @@ use leaves::cell;
 use limiting::over_limits;
 use limits::Refusal;
 
-// The number of rows, or number and place of the refusal.
-#[derive(Drop)]
-pub enum Verdict {
-    Fine(usize),
-    Refused(u8, usize),
+// A refusal: its number, and the place where it is told.
+#[derive(Clone, Copy, PartialEq, Eq)]
+pub struct Refused {
+    pub number: u8,
+    pub place: usize,
 }
 
 // The place of the i-th token; behind the last, the text's length.
@@ -52,7 +52,7 @@ pub fn blank(rows: &mut [u32], cells: &mut [u32], bytes: &mut [u8])
     clear_bytes(bytes);
 }
 
-// The limits that are tested after what is left out, on one walk over the tokens.
+// The limits that are tested after what is left out, on one walk over the tokens: the number of rows, or the refusal.
 fn within_limits(
     text: &[u8],
     kinds: &[u8],
@@ -61,21 +61,24 @@ fn within_limits(
     rows: &mut [u32],
     cells: &mut [u32],
     bytes: &mut [u8],
-) -> Verdict
+) -> Result<usize, Refused>
     ensures { Limited text.now kinds.now places.now lengths.now rows.old (table cells.old bytes.old) rows.new (table cells.new bytes.new) result }
 {
     let short = room::short(rows.len(), cells.len(), bytes.len());
     let w = guideline_walk::walk(text, kinds, places, lengths, rows, cells, bytes);
     match over_limits(text, kinds, places, lengths, w, short) {
-        Some(p) => {
+        Some(place) => {
             blank(rows, cells, bytes);
-            Verdict::Refused(Refusal::LIMIT, p)
+            Err(Refused {
+                number: Refusal::LIMIT,
+                place,
+            })
         }
-        None => Verdict::Fine(w.rows),
+        None => Ok(w.rows),
     }
 }
 
-// Tests 3, 10 and 6, in this order, over blank tables: those of an accepted text are written, and those of a refused one blank again.
+// Tests 3, 10 and 6, in this order, over blank tables, for the number of rows or the refusal: the tables of an accepted text are written, and those of a refused one blank again.
 pub fn judge(
     text: &[u8],
     kinds: &[u8],
@@ -84,14 +87,20 @@ pub fn judge(
     rows: &mut [u32],
     cells: &mut [u32],
     bytes: &mut [u8],
-) -> Verdict
+) -> Result<usize, Refused>
     ensures { Judges text.now kinds.now places.now lengths.now rows.old (table cells.old bytes.old) rows.new (table cells.new bytes.new) result }
 {
-    if let Some(p) = first_bad(text, kinds, places) {
-        return Verdict::Refused(Refusal::GRAMMAR, p);
+    if let Some(place) = first_bad(text, kinds, places) {
+        return Err(Refused {
+            number: Refusal::GRAMMAR,
+            place,
+        });
     }
-    if let Some(p) = token_tests::left_out(text, kinds, places, lengths) {
-        return Verdict::Refused(Refusal::LEFT_OUT, p);
+    if let Some(place) = token_tests::left_out(text, kinds, places, lengths) {
+        return Err(Refused {
+            number: Refusal::LEFT_OUT,
+            place,
+        });
     }
     within_limits(text, kinds, places, lengths, rows, cells, bytes)
 }

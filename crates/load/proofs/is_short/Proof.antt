@@ -1,7 +1,6 @@
 -- `is_short`: by the three lengths.
 use Rattle.load.specs.LoadsLaws.{few_first, few_second, few_third}
 use lib.ListN.{length}
-use borrow.Author.Rules.{rules}
 use Rattle.load.proofs.is_short.Statement.{statement}
 use Rattle.load.proofs.is_short.Tie as tie
 
