@@ -1,5 +1,5 @@
 -- From what the tests of names and types find to the answer of load. A text has one structure, so a breach of a stage is one of that structure.
-use Rattle.std.specs.Prelude.{ℕ, suc, ◌≤◌, ◌<◌, refl, List}
+use Rattle.std.specs.Prelude.{ℕ, ◌≤◌, refl, List}
 use Rattle.std.proofs.Common.{arith, subst}
 use Rattle.paper_guideline.specs.Structure.{TopLevel}
 use Rattle.paper_guideline.specs.Names.{NameBreach}

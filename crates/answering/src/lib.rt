@@ -7,49 +7,50 @@ ghost use Rattle.parts.specs.Part.{table};
 ghost use Rattle.answering.specs.Reply.{Answered, Named, Typed};
 
 use limits::Refusal;
-use reading::Reading;
-use row_tests::Found;
-pub use verdict::{Verdict, decide};
-
-// How many rows there are, in the tables; or number and place of the refusal.
-#[derive(Drop)]
-pub enum Answer {
-    Loads(usize),
-    Refused(u8, usize),
-}
+use stages::Refused;
+pub use verdict::decide;
 
 // 5: of rows that break no rule on names.
-fn typed(rows: &mut [u32], cells: &mut [u32], bytes: &mut [u8], n: usize) -> Answer
+fn typed(rows: &mut [u32], cells: &mut [u32], bytes: &mut [u8], n: usize) -> Result<usize, Refused>
     ensures { Typed rows.old (table cells.old bytes.old) n rows.new (table cells.new bytes.new) result }
 {
     match types::check(rows, n, cells, bytes) {
-        Found::Nowhere => Answer::Loads(n),
-        Found::At(place) => {
+        None => Ok(n),
+        Some(place) => {
             stages::blank(rows, cells, bytes);
-            Answer::Refused(Refusal::TYPE, place)
+            Err(Refused {
+                number: Refusal::TYPE,
+                place,
+            })
         }
     }
 }
 
 // 4, and then 5.
-fn named(rows: &mut [u32], cells: &mut [u32], bytes: &mut [u8], n: usize) -> Answer
+fn named(rows: &mut [u32], cells: &mut [u32], bytes: &mut [u8], n: usize) -> Result<usize, Refused>
     ensures { Named rows.old (table cells.old bytes.old) n rows.new (table cells.new bytes.new) result }
 {
     match names::check(rows, n, bytes) {
-        Found::Nowhere => typed(rows, cells, bytes, n),
-        Found::At(place) => {
+        None => typed(rows, cells, bytes, n),
+        Some(place) => {
             stages::blank(rows, cells, bytes);
-            Answer::Refused(Refusal::NAME, place)
+            Err(Refused {
+                number: Refusal::NAME,
+                place,
+            })
         }
     }
 }
 
-// Judges a text by all stages. All tables are blank where it is refused.
-pub fn judge(text: &[u8], rows: &mut [u32], cells: &mut [u32], bytes: &mut [u8]) -> Answer
+// Judges a text by all stages: how many rows there are, in the tables, or the refusal. All tables are blank where it is refused.
+pub fn judge(
+    text: &[u8],
+    rows: &mut [u32],
+    cells: &mut [u32],
+    bytes: &mut [u8],
+) -> Result<usize, Refused>
     ensures { Answered text.now rows.old (table cells.old bytes.old) rows.new (table cells.new bytes.new) result }
 {
-    match reading::read(text, rows, cells, bytes) {
-        Reading::Refused(number, place) => Answer::Refused(number, place),
-        Reading::Reads(n) => named(rows, cells, bytes, n),
-    }
+    let n = reading::read(text, rows, cells, bytes)?;
+    named(rows, cells, bytes, n)
 }

@@ -1,24 +1,16 @@
 // What is decided of a whole text: it loads, or number and place of its refusal. For programs that want no tables.
 ghost use Rattle.answering.specs.Decided.{Decides};
 
-use crate::Answer;
 use limits::{Expressions, Guideline, Rows};
-
-#[derive(Drop)]
-pub enum Verdict {
-    Loads,
-    Refused(u8, usize),
-}
+use stages::Refused;
 
 // Answers with tables that are never short.
-pub fn decide(text: &[u8]) -> Verdict
+pub fn decide(text: &[u8]) -> Result<(), Refused>
     ensures { Decides text.now result }
 {
     let mut rows = [0u32; Rows::CELLS];
     let mut cells = [0u32; Expressions::CELLS];
     let mut bytes = [0u8; Guideline::LIMIT];
-    match crate::judge(text, &mut rows, &mut cells, &mut bytes) {
-        Answer::Loads(_) => Verdict::Loads,
-        Answer::Refused(number, place) => Verdict::Refused(number, place),
-    }
+    crate::judge(text, &mut rows, &mut cells, &mut bytes)?;
+    Ok(())
 }

@@ -1,7 +1,6 @@
 // Examines one guideline: reads any bytes from standard input and writes `refused N P` or `loads`; then, for people, of a refusal the line and what is wrong, and of a guideline that loads the names that are read as text.
 #![tactic(auto)]
 
-use answering::Verdict;
 use bare_names::told;
 use limits::Guideline;
 use sentences::write;
@@ -15,11 +14,11 @@ fn examine(text: &[u8], s: Seen) {
         return;
     }
     match answering::decide(text) {
-        Verdict::Loads => {
+        Ok(()) => {
             write::text(b"loads\n");
             told::list(text);
         }
-        Verdict::Refused(number, place) => told_refusal::tell(text, number, place, s),
+        Err(r) => told_refusal::tell(text, r.number, r.place, s),
     }
 }
 

@@ -1,16 +1,15 @@
 // Examines the texts of a batch: writes for each the line that examine writes first. For comparison with the second program.
 #![tactic(auto)]
 
-use answering::Verdict;
 use batch::STDOUT_FILENO;
 
 // One text.
 fn answer(text: &[u8]) {
     match answering::decide(text) {
-        Verdict::Loads => {
+        Ok(()) => {
             io::write_all(STDOUT_FILENO, b"loads\n");
         }
-        Verdict::Refused(number, place) => batch::write_refused(number, place),
+        Err(r) => batch::write_refused(r.number, r.place),
     }
 }
 

@@ -1,5 +1,5 @@
 -- What the tests find is what the next step asks for, or the refusal: the grammar, what is left out, the limits.
-use Rattle.std.specs.Prelude.{Result, Ok, Err, ℕ, ◌≤◌, ◌<◌, ◌≡◌, refl, List, [], length}
+use Rattle.std.specs.Prelude.{Result, Ok, Err, Option, Some, None, ℕ, ◌≤◌, ◌<◌, ◌≡◌, refl, List, [], length}
 use Rattle.std.proofs.Common.{arith, subst}
 use Rattle.paper_expressions.specs.Limits.{list_limit}
 use Rattle.paper_expressions.specs.View as View
@@ -17,8 +17,6 @@ use Rattle.grammar.specs.declared.Start.TheVariants.{Expression}
 use Rattle.grammar.specs.declared.Answer as Grammar
 use Rattle.grammar.specs.Reply as Read
 use Rattle.leaves.specs.Source.{source}
-use Rattle.token_tests.specs.declared.Found.{Found}
-use Rattle.token_tests.specs.declared.Found.TheVariants.{At, Nowhere}
 use Rattle.token_tests.specs.Reply.{OverLimit, First}
 use Rattle.expression_steps.specs.declared.Built.{Built}
 use Rattle.expression_reader.specs.Reads.{Whole, Reads, parts_size, within_depth}
@@ -59,12 +57,12 @@ module _ {line kinds places lengths : List ℕ} where
 
   -- ---- what is left out
 
-  module _ (l : Lexed line kinds places lengths) (d : SentenceOf ⟨expression⟩ kinds) {r : Found} (first : First LeftOut (source line kinds places lengths) r) where
-    pub left_out : {p : ℕ} → r ≡ At p → LineAnswers line (refused 10)
+  module _ (l : Lexed line kinds places lengths) (d : SentenceOf ⟨expression⟩ kinds) {r : Option ℕ} (first : First LeftOut (source line kinds places lengths) r) where
+    pub left_out : {p : ℕ} → r ≡ Some p → LineAnswers line (refused 10)
     left_out e =
         uses l.its (sentence l.its l.are l.before d) (subst (First LeftOut (source line kinds places lengths)) e first l.tokens l.its l.stand).0
 
-    pub parsed : r ≡ Nowhere → Parsed line kinds places lengths
+    pub parsed : r ≡ None → Parsed line kinds places lengths
     parsed e =
         let n = subst (First LeftOut (source line kinds places lengths)) e first l.tokens l.its l.stand in
         let x = some_expression l.are d n in
@@ -80,13 +78,13 @@ module _ {line kinds places lengths : List ℕ} where
   -- ---- the limits
 
   module _ (p : Parsed line kinds places lengths) where
-    module _ {r : Found} (first : First OverLimit (source line kinds places lengths) r) where
-      pub over : {q : ℕ} → r ≡ At q → LineAnswers line (refused 6)
+    module _ {r : Option ℕ} (first : First OverLimit (source line kinds places lengths) r) where
+      pub over : {q : ℕ} → r ≡ Some q → LineAnswers line (refused 6)
       over e =
           let h = (subst (First OverLimit (source line kinds places lengths)) e first p.tokens p.its p.stand).0 in
           over_limit p.its p.before h.there h.breach
 
-      pub none_over : r ≡ Nowhere → (i : ℕ) (t : Token) → View.At p.tokens i t → ¬ TokenBreach t
+      pub none_over : r ≡ None → (i : ℕ) (t : Token) → View.At p.tokens i t → ¬ TokenBreach t
       none_over e i t a b =
           subst (First OverLimit (source line kinds places lengths)) e first p.tokens p.its p.stand t.place (record { index = i; token = t; there = a; breach = b; place = refl })
 

@@ -5,7 +5,6 @@ ghost use Rattle.line_answer.specs.Steps.{Lexed, Parsed, Parses, Fits};
 
 use grammar::{Answer, Start};
 use limits::{Expression, Expressions, Refusal};
-use token_tests::Found;
 use values::List;
 
 // The number of a refusal.
@@ -21,8 +20,8 @@ pub fn parse(line: &[u8], kinds: &[u8], places: &[usize], lengths: &[usize]) -> 
         return Err(Refused(Refusal::GRAMMAR));
     };
     match token_tests::left_out(line, kinds, places, lengths) {
-        Found::At(_) => Err(Refused(Refusal::LEFT_OUT)),
-        Found::Nowhere => Ok(()),
+        Some(_) => Err(Refused(Refusal::LEFT_OUT)),
+        None => Ok(()),
     }
 }
 
@@ -38,7 +37,7 @@ pub fn fit(
     requires cells_len { length cells.old ≡ part_limit * 4 }
     ensures { Fits line.now cells.new result }
 {
-    if let Found::At(_) = token_tests::past_limit(line, kinds, places, lengths) {
+    if let Some(_) = token_tests::past_limit(line, kinds, places, lengths) {
         return Err(Refused(Refusal::LIMIT));
     }
     let m = expression_reader::read(line, kinds, places, lengths, 0, false, cells, 0);

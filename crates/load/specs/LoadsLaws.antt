@@ -1,5 +1,5 @@
 -- From load's answer, the plan and the opened state to its reply; and that only one reply fits, with every cell.
-use Rattle.std.specs.Prelude.{ℕ, ◌≤◌, ◌<◌, ◌≡◌, refl, Bool, true, false, ◌||◌, List, length, get_or, ltb}
+use Rattle.std.specs.Prelude.{ℕ, ◌≤◌, ◌<◌, ◌≡◌, refl, Bool, true, false, ◌||◌, List, length, get_or, ltb, Result, Ok, Err}
 use Rattle.std.proofs.Common.{arith, sym, ap, subst, ◌∙◌, ltb-false, lt-ltb, le-ltb}
 use Rattle.std.proofs.lemmas.List.{length-map}
 use Rattle.paper_expressions.proofs.Laws.Tests.{or_r}
@@ -19,7 +19,7 @@ use Rattle.guideline_rows.specs.OneEncoding.{AsLong, one_encoding}
 use Rattle.stages.specs.Judged.{is_short}
 use Rattle.reading.specs.Laws.{same_refusal}
 use Rattle.stages.specs.Judged as Stages
-use Rattle.answering.specs.declared.Answer.{Answer}
+use Rattle.stages.specs.declared.Refused.{Refused}
 use Rattle.answering.specs.Reply as Answering
 use Rattle.answering.specs.Stages.{never_both, swapped}
 use Rattle.opening.specs.Opened.{Opened, Opens, one_opened}
@@ -78,12 +78,12 @@ module _ {S : Type 0} {text : List ℕ} {g : List TopLevel} {x q b f : List ℕ}
 
 -- ---- accepted
 
-module _ (a : Lent) {text : List ℕ} {x q b : List ℕ} {r : Answer} (long_enough : few (length a.plan) (length a.parts.bytes) (length a.state) ≡ false)
+module _ (a : Lent) {text : List ℕ} {x q b : List ℕ} {r : Result ℕ Refused} (long_enough : few (length a.plan) (length a.parts.bytes) (length a.state) ≡ false)
     (answered : Answering.Answered text a.rows a.parts x (table q b) r) where
   told_as : {z : Refusals.Answer} → Refusals.Answers (Stages.Short a.rows a.parts) text z → Refusals.Answers (short_f a ≡ true) text z
   told_as h = let e = or_none (is_short (length a.rows) (length a.parts.cells) (length a.parts.bytes)) _ long_enough in swapped (λ k. e ∙ k) (λ k. sym e ∙ k) h
 
-  pub taken : {n : ℕ} {f : List ℕ} {w : List (List Bool)} {s : List ℕ} → r ≡ Answer.Loads n → Prepared x n b a.plan a.state f w s
+  pub taken : {n : ℕ} {f : List ℕ} {w : List (List Bool)} {s : List ℕ} → r ≡ Ok n → Prepared x n b a.plan a.state f w s
       → Replied text a (record { rows = x; parts = table q b; plan = f; waits = w; state = s }) Reply.Done
   taken {n} {f} {w} {s} e p =
       let h = subst (Answering.Reply text a.rows a.parts x (table q b)) e answered.reply in
@@ -106,8 +106,8 @@ module _ (a : Lent) {text : List ℕ} {x q b : List ℕ} {r : Answer} (long_enou
         };
       }
 
-  pub turned_away : {n p : ℕ} {f : List ℕ} {w : List (List Bool)} {s : List ℕ} → r ≡ Answer.Refused n p → Emptied a.plan a.state f w s
-      → Replied text a (record { rows = x; parts = table q b; plan = f; waits = w; state = s }) (Reply.Refused n p)
+  pub turned_away : {v : Refused} {f : List ℕ} {w : List (List Bool)} {s : List ℕ} → r ≡ Err v → Emptied a.plan a.state f w s
+      → Replied text a (record { rows = x; parts = table q b; plan = f; waits = w; state = s }) (Reply.Refused v.number v.place)
   turned_away e z =
       let h = subst (Answering.Reply text a.rows a.parts x (table q b)) e answered.reply in
       record { outcome = (told_as h.0, record { rows = h.1.rows; cells = h.1.parts; bytes = h.1.bytes; rest = z }) }
@@ -121,11 +121,11 @@ prepared {s = s} {s' = s'} h e o = record { fills = h; opens = subst (λ (k : �
 pub never_short : {S : Type 0} {text : List ℕ} → Refusals.Answers S text Refusals.loads → ¬ S
 never_short {text = text} (Refusals.is_loaded r none) s = none Refusals.limit_stage (length text) (Refusals.short_table s)
 
-module _ {text x z : List ℕ} {t u : Table} {r : Answer} (answered : Answering.Answered text x t z u r) (short : Stages.Short x t) where
-  pub not_taken : {n p : ℕ} → r ≡ Answer.Loads n → Turned text (Reply.Refused 6 p)
+module _ {text x z : List ℕ} {t u : Table} {r : Result ℕ Refused} (answered : Answering.Answered text x t z u r) (short : Stages.Short x t) where
+  pub not_taken : {n p : ℕ} → r ≡ Ok n → Turned text (Reply.Refused 6 p)
   not_taken e = absurd (never_short (subst (Answering.Reply text x t z u) e answered.reply).answers short)
 
-  pub refused_short : {n p : ℕ} → r ≡ Answer.Refused n p → Turned text (Reply.Refused n p)
+  pub refused_short : {v : Refused} → r ≡ Err v → Turned text (Reply.Refused v.number v.place)
   refused_short e = record { told = λ k y. swapped (λ v. y) (λ v. short) (subst (Answering.Reply text x t z u) e answered.reply).0 }
 
 pub too_short : (a : Lent) {text : List ℕ} {x q b f : List ℕ} {w : List (List Bool)} {s : List ℕ} (r : Reply) → few (length a.plan) (length a.parts.bytes) (length a.state) ≡ true

@@ -5,7 +5,6 @@ ghost use Rattle.std.specs.Prelude.{◌≡◌, length};
 ghost use Rattle.parts.specs.Part.{table};
 ghost use Rattle.load.specs.Loads.{few, lent, Emptied, Prepared, Turned, Replied};
 
-use answering::Answer;
 use blank::clear;
 use limits::{Refusal, WaitTable, Waits};
 use opening::{State, open};
@@ -73,8 +72,8 @@ fn refusal(text: &[u8]) -> Reply
     let mut cells = [0u32; 1];
     let mut bytes = [0u8; 1];
     match answering::judge(text, &mut rows, &mut cells, &mut bytes) {
-        Answer::Loads(_) => Reply::Refused(Refusal::LIMIT, text.len()),
-        Answer::Refused(number, place) => Reply::Refused(number, place),
+        Ok(_) => Reply::Refused(Refusal::LIMIT, text.len()),
+        Err(r) => Reply::Refused(r.number, r.place),
     }
 }
 
@@ -96,13 +95,13 @@ pub fn load(
         return refusal(text);
     }
     match answering::judge(text, rows, parts, texts) {
-        Answer::Loads(n) => {
+        Ok(n) => {
             prepare(rows, n, texts, plan, waits, state);
             Reply::Done
         }
-        Answer::Refused(number, place) => {
+        Err(r) => {
             empty(plan, waits, state);
-            Reply::Refused(number, place)
+            Reply::Refused(r.number, r.place)
         }
     }
 }

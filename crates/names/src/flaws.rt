@@ -3,7 +3,6 @@ ghost use Rattle.std.specs.Prelude.{◌≡◌};
 ghost use Rattle.names.specs.Verdict.{spot_of, AllFlaws, Judges};
 
 use name_tests::flaws::flawed;
-use row_tests::Found;
 use row_tests::cells::{kind, place, word};
 use row_tests::kinds::once;
 use row_tests::least::nearer;
@@ -29,8 +28,8 @@ fn judge(
     items: &[u32],
     d: usize,
     j: usize,
-    best: Found,
-) -> Found
+    best: Option<usize>,
+) -> Option<usize>
     ensures { Judges rows.now n bytes.now tasks.now m items.now d j best result }
 {
     if flawed(rows, n, bytes, tasks, m, items, d, j) {
@@ -49,10 +48,10 @@ pub fn flaws(
     m: usize,
     items: &[u32],
     d: usize,
-) -> Found
+) -> Option<usize>
     ensures { AllFlaws rows.now n bytes.now tasks.now m items.now d n result }
 {
-    let mut best = Found::Nowhere;
+    let mut best = None;
     for j in 0..n {
         best = judge(rows, n, bytes, tasks, m, items, d, j, best);
     }

@@ -10,26 +10,25 @@ ghost use Rattle.names.specs.Verdict.{Judged};
 use flaws::flaws;
 use limits::{DataItems, Tasks};
 use name_tests::lists::gather;
-use row_tests::Found;
 use row_tests::cells::ROWS;
 use walk::{reach, unreached};
 
 // The first `n` rows of a guideline of at most 32 tasks and 64 data items.
-pub fn check(rows: &[u32], n: usize, bytes: &[u8]) -> Found
+pub fn check(rows: &[u32], n: usize, bytes: &[u8]) -> Option<usize>
     ensures { Judged rows.now n bytes.now result }
 {
     if ROWS < n {
-        return Found::Nowhere;
+        return None;
     }
     let mut tasks = [0u32; Tasks::LIMIT];
     let m = gather(rows, n, true, &mut tasks);
     if Tasks::LIMIT < m {
-        return Found::Nowhere;
+        return None;
     }
     let mut items = [0u32; DataItems::LIMIT];
     let d = gather(rows, n, false, &mut items);
     if DataItems::LIMIT < d {
-        return Found::Nowhere;
+        return None;
     }
     let mut marks = [0u8; Tasks::LIMIT];
     reach(rows, n, bytes, &tasks, m, &mut marks);

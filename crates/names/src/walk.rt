@@ -5,7 +5,6 @@ ghost use Rattle.names.specs.Walk.{Follows, Marks, Spreads, Reaches, Waits};
 ghost use Rattle.names.specs.Verdict.{Tells, TellsOne};
 
 use parts::{byte, number};
-use row_tests::Found;
 use row_tests::cells::{handle, place};
 use row_tests::least::nearer;
 use row_tests::search::{finish, named};
@@ -88,7 +87,7 @@ pub fn reach(rows: &[u32], n: usize, bytes: &[u8], tasks: &[u32], m: usize, mark
 }
 
 // One task more, told at its name if it has no mark.
-fn tell(rows: &[u32], tasks: &[u32], marks: &[u8], k: usize, best: Found) -> Found
+fn tell(rows: &[u32], tasks: &[u32], marks: &[u8], k: usize, best: Option<usize>) -> Option<usize>
     ensures { TellsOne rows.now tasks.now marks.now k best result }
 {
     if byte(marks, k) == Visit::NONE {
@@ -98,7 +97,13 @@ fn tell(rows: &[u32], tasks: &[u32], marks: &[u8], k: usize, best: Found) -> Fou
 }
 
 // The smallest place, of what was found so far and of the tasks that have no mark.
-pub fn unreached(rows: &[u32], tasks: &[u32], m: usize, marks: &[u8], best: Found) -> Found
+pub fn unreached(
+    rows: &[u32],
+    tasks: &[u32],
+    m: usize,
+    marks: &[u8],
+    best: Option<usize>,
+) -> Option<usize>
     ensures { Tells rows.now tasks.now marks.now m m best result }
 {
     let mut found = best;

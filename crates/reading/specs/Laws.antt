@@ -1,5 +1,5 @@
 -- From the stages to the reply; and that only one reply fits.
-use Rattle.std.specs.Prelude.{ℕ, ◌≡◌, refl, List, length, take, replicate}
+use Rattle.std.specs.Prelude.{ℕ, ◌≡◌, refl, List, length, take, replicate, Result, Ok, Err}
 use Rattle.std.proofs.Common.{sym, ap, ap₂, subst, ◌∙◌}
 use Rattle.paper_guideline.specs.Limits.{token_limit}
 use Rattle.paper_tokens.specs.Lexical.{Token}
@@ -10,7 +10,6 @@ use Rattle.paper_guideline.specs.Refusals as Refusals
 use Rattle.paper_guideline.proofs.Laws.RefusalLaws.{one_answer}
 use Rattle.parts.specs.Part.{Table, table}
 use Rattle.blank.specs.Zeros.{zeros_long, zeros_again}
-use Rattle.columns.specs.Columns.{Lexed}
 use Rattle.columns.specs.Replies.{not_short, turned, read}
 use Rattle.tokens.specs.Reply.{Reads}
 use Rattle.tokens.specs.declared.Read as tokens
@@ -19,21 +18,22 @@ use Rattle.guideline_rows.specs.Rows.{flatten}
 use Rattle.guideline_rows.specs.Encoded.{Encoded}
 use Rattle.guideline_rows.specs.OneEncoding.{AsLong, one_encoding}
 use Rattle.stages.specs.Stages.{Passed, Turned, early_refused}
-use Rattle.stages.specs.declared.Verdict.{Verdict}
-use Rattle.stages.specs.declared.Verdict.TheVariants.{Fine, Refused}
-use Rattle.stages.specs.Judged.{Short, Empty, Accepted, Outcome, Judges}
-use Rattle.reading.specs.declared.Reading.{Reading}
-use Rattle.reading.specs.declared.Reading.TheVariants as Reading
+use Rattle.stages.specs.declared.Refused.{Refused}
+use Rattle.stages.specs.Judged.{Short, Empty, Accepted, refusal, Outcome, Judges}
 use Rattle.reading.specs.Reply.{Reply, Answered, Begun, Structured}
 
 -- ---- what the stages give
 
-module _ {text kinds places lengths x y : List ℕ} {t u : Table} {v : Verdict} (judges : Judges text kinds places lengths x t y u v) where
-  pub refusing : {n p : ℕ} → v ≡ Refused n p → Structured text kinds places lengths x t y u (Reading.Refused n p)
+module _ {text kinds places lengths x y : List ℕ} {t u : Table} {v : Result ℕ Refused} (judges : Judges text kinds places lengths x t y u v) where
+  pub refusing : {r : Refused} → v ≡ Err r → Structured text kinds places lengths x t y u (Err r)
   refusing f = record { reply = λ l b. subst (Outcome text x t y u) f (judges.outcome l b) }
 
-  pub accepting : {n : ℕ} → v ≡ Fine n → Structured text kinds places lengths x t y u (Reading.Reads n)
+  pub accepting : {n : ℕ} → v ≡ Ok n → Structured text kinds places lengths x t y u (Ok n)
   accepting f = record { reply = λ l b. subst (Outcome text x t y u) f (judges.outcome l b) }
+
+pub structured : {text kinds places lengths x y : List ℕ} {t u : Table} (v : Result ℕ Refused) → Judges text kinds places lengths x t y u v → Structured text kinds places lengths x t y u v
+structured (Ok n) judges = accepting judges refl
+structured (Err r) judges = refusing judges refl
 
 -- ---- tables that were blanked: as long as they were
 
@@ -69,8 +69,8 @@ module _ {x y : List ℕ} {t u : Table} (e : Empty x t y u) where
     bytes = h.bytes ∙ l.bytes;
   }
 
-  lent_again : (text z : List ℕ) (w : Table) (r : Reading) → Reply text y u z w r → Reply text x t z w r
-  lent_again text z w (Reading.Reads n) h = record {
+  lent_again : (text z : List ℕ) (w : Table) (r : Result ℕ Refused) → Reply text y u z w r → Reply text x t z w r
+  lent_again text z w (Ok n) h = record {
     guideline = h.guideline;
     read = h.read;
     passed = subst (λ (S : Type 0). Passed S text 5) same_short h.passed;
@@ -78,9 +78,9 @@ module _ {x y : List ℕ} {t u : Table} (e : Empty x t y u) where
     long = re_long h.long;
     encoded = h.encoded;
   }
-  lent_again text z w (Reading.Refused n p) h = (subst (λ (S : Type 0). Turned S text n p) same_short h.0, re_empty h.1)
+  lent_again text z w (Err r) h = (subst (λ (S : Type 0). Turned S text r.number r.place) same_short h.0, re_empty h.1)
 
-  pub relent : {text z : List ℕ} {w : Table} {r : Reading} → Begun text y u z w r → Answered text x t z w r
+  pub relent : {text z : List ℕ} {w : Table} {r : Result ℕ Refused} → Begun text y u z w r → Answered text x t z w r
   relent {text} {z} {w} {r} h = record { reply = lent_again text z w r (h.reply still_blank) }
 
 -- ---- only one reply fits
@@ -106,29 +106,29 @@ not_both {p = p} a b = absurd (a.passed b.refused.stage p b.stage b.refused.brok
 pub same_refusal : {A : Type 0} (reply : ℕ → ℕ → A) {n m p q : ℕ} → Refusals.refused n p ≡ Refusals.refused m q → reply n p ≡ reply m q
 same_refusal reply {n} {m} {p} {q} e = let x : n ≡ m = cc in let y : p ≡ q = cc in ap₂ reply x y
 
-same_reply : (text x : List ℕ) (t : Table) {z w : List ℕ} {u v : Table} (r s : Reading) → Reply text x t z u r → Reply text x t w v s → (r ≡ s) × (z ≡ w) × (u ≡ v)
-same_reply text x t {z} {w} {u} {v} (Reading.Reads n) (Reading.Reads m) a b =
+same_reply : (text x : List ℕ) (t : Table) {z w : List ℕ} {u v : Table} (r s : Result ℕ Refused) → Reply text x t z u r → Reply text x t w v s → (r ≡ s) × (z ≡ w) × (u ≡ v)
+same_reply text x t {z} {w} {u} {v} (Ok n) (Ok m) a b =
     let e : a.guideline ≡ b.guideline = one_structure (subst (λ (ts : List Token). Structure ts a.guideline) (LexicalLaws.one_list a.read.its b.read.its) a.read.structure) b.read.structure in
     let c = a.count ∙ ap (λ (g : List TopLevel). length (flatten g)) e ∙ sym b.count in
     let o = one_encoding (same_lengths a.long b.long) (subst (λ (g : List TopLevel). Encoded (flatten g) z u) e a.encoded) b.encoded in
-    (ap Reading.Reads c, o.0, o.1)
-same_reply text x t (Reading.Reads n) (Reading.Refused m p) a b = not_both a b.0
-same_reply text x t (Reading.Refused m p) (Reading.Reads n) a b = not_both b a.0
-same_reply text x t (Reading.Refused n p) (Reading.Refused m q) a b =
+    (ap Ok c, o.0, o.1)
+same_reply text x t (Ok n) (Err r) a b = not_both a b.0
+same_reply text x t (Err r) (Ok n) a b = not_both b a.0
+same_reply text x t (Err r) (Err s) a b =
     let f = empties a.1 b.1 in
-    (same_refusal Reading.Refused (one_answer (Refusals.is_refused a.0.refused) (Refusals.is_refused b.0.refused)), f.0, f.1)
+    (same_refusal {A = Result ℕ Refused} (λ n p. Err (refusal n p)) (one_answer (Refusals.is_refused a.0.refused) (Refusals.is_refused b.0.refused)), f.0, f.1)
 
-pub one_reply : {text x z w : List ℕ} {t u v : Table} {r s : Reading} → Answered text x t z u r → Answered text x t w v s → (r ≡ s) × (z ≡ w) × (u ≡ v)
+pub one_reply : {text x z w : List ℕ} {t u v : Table} {r s : Result ℕ Refused} → Answered text x t z u r → Answered text x t w v s → (r ≡ s) × (z ≡ w) × (u ≡ v)
 one_reply {text} {x} {t = t} {r = r} {s = s} a b = same_reply text x t r s a.reply b.reply
 
 -- ---- the tokens' reply
 
 module _ (text kinds places lengths : List ℕ) {v : tokens.Read} (reads : Reads text token_limit token_limit token_limit kinds places lengths v) where
-  pub no_columns : {x : List ℕ} {t : Table} {x' : List ℕ} {t' : Table} {r : Reading} → v ≡ variants.Short → Begun text x t x' t' r
+  pub no_columns : {x : List ℕ} {t : Table} {x' : List ℕ} {t' : Table} {r : Result ℕ Refused} → v ≡ variants.Short → Begun text x t x' t' r
   no_columns e = absurd (not_short text kinds places lengths reads e)
 
-  pub turning : {x : List ℕ} {t : Table} {n p : ℕ} → v ≡ variants.Refused n p → Begun text x t x t (Reading.Refused n p)
+  pub turning : {x : List ℕ} {t : Table} {n p : ℕ} → v ≡ variants.Refused n p → Begun text x t x t (Err (refusal n p))
   turning {x} {t} e = record { reply = λ b. let h = turned text kinds places lengths reads e in (early_refused (Short x t) text h.refused h.stage, b) }
 
-  pub going : {x : List ℕ} {t : Table} {x' : List ℕ} {t' : Table} {n : ℕ} {r : Reading} → v ≡ variants.Tokens n → Structured text (take n kinds) places lengths x t x' t' r → Begun text x t x' t' r
+  pub going : {x : List ℕ} {t : Table} {x' : List ℕ} {t' : Table} {n : ℕ} {r : Result ℕ Refused} → v ≡ variants.Tokens n → Structured text (take n kinds) places lengths x t x' t' r → Begun text x t x' t' r
   going e s = record { reply = λ b. s.reply (read text kinds places lengths reads e) b }

@@ -2,14 +2,9 @@
 ghost use Rattle.std.specs.Prelude.{◌≡◌};
 ghost use Rattle.row_tests.specs.Least.{nearer as nearerOf};
 
-use super::Found;
-
 // The smaller place.
-pub fn nearer(best: Found, p: usize) -> Found
+pub fn nearer(best: Option<usize>, p: usize) -> Option<usize>
     ensures { result ≡ nearerOf best p }
 {
-    match best {
-        Found::At(q) if q <= p => best,
-        _ => Found::At(p),
-    }
+    Some(best.map_or(p, |q| q.min(p)))
 }

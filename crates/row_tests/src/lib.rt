@@ -7,10 +7,3 @@ pub mod kinds;
 pub mod least;
 pub mod search;
 pub mod texts;
-
-// The smallest place at which something is broken, or that nothing is.
-#[derive(Drop)]
-pub enum Found {
-    At(usize),
-    Nowhere,
-}

@@ -1,6 +1,6 @@
 -- What the tests from the grammar to the limits have to find: each test alone, and all in their order. Definitions only.
-use Rattle.std.specs.Prelude.{ℕ, ◌*◌, ◌≤◌, ◌<◌, ◌≡◌, Bool, true, false, ◌||◌, List, ltb, length, get_or}
-use Rattle.std.proofs.Math.Option.{Option, none, some}
+use Rattle.std.specs.Prelude.{ℕ, ◌*◌, ◌≤◌, ◌<◌, ◌≡◌, Bool, true, false, ◌||◌, List, ltb, length, get_or, Option, Some, None, Result, Ok, Err}
+use Rattle.std.proofs.Math.Option.{Option as Maybe, none, some}
 use Rattle.paper_guideline.specs.Limits.{guideline_limit, token_limit, task_limit, data_item_limit, part_limit, assignment_limit, source_limit}
 use Rattle.paper_grammar.specs.Nonterminals.{⟨process⟩}
 use Rattle.paper_grammar.specs.Sentence.{SentenceOf, FirstBad}
@@ -17,18 +17,15 @@ use Rattle.guideline_rows.specs.Encoded.{Encoded}
 use Rattle.guideline_rows.specs.OneEncoding.{AsLong}
 use Rattle.guideline_walk.specs.declared.Totals.{Totals}
 use Rattle.guideline_walk.specs.Surveyed.{Surveyed}
-use Rattle.token_tests.specs.declared.Found.{Found}
-use Rattle.token_tests.specs.declared.Found.TheVariants.{At, Nowhere}
-use Rattle.stages.specs.declared.Verdict.{Verdict}
-use Rattle.stages.specs.declared.Verdict.TheVariants.{Fine, Refused}
+use Rattle.stages.specs.declared.Refused.{Refused}
 use Rattle.stages.specs.Least.{Least}
 use Rattle.stages.specs.Stages.{Passed, Turned}
 use Rattle.stages.specs.Limits.{Over}
 
 -- a place, or none
-abbrev pub spot : Found → Option ℕ
-spot (At p) = some p
-spot Nowhere = none
+abbrev pub spot : Option ℕ → Maybe ℕ
+spot (Some p) = some p
+spot None = none
 
 -- ---- 3
 
@@ -42,15 +39,15 @@ pub record BadAt (text kinds places : List ℕ) (p : ℕ) : Type 0 where
   pub bad : FirstBad ⟨process⟩ kinds index
   pub place : Places text kinds places index p
 
-abbrev pub Sentences : List ℕ → List ℕ → List ℕ → Found → Type 0
-Sentences text kinds places (At p) = length kinds ≤ token_limit → BadAt text kinds places p
-Sentences text kinds places Nowhere = SentenceOf ⟨process⟩ kinds
+abbrev pub Sentences : List ℕ → List ℕ → List ℕ → Option ℕ → Type 0
+Sentences text kinds places (Some p) = length kinds ≤ token_limit → BadAt text kinds places p
+Sentences text kinds places None = SentenceOf ⟨process⟩ kinds
 
 -- ---- 6
 
-abbrev pub Large : Totals → Found → Type 0
-Large t (At p) = (t.large ≡ true) × (p ≡ t.place)
-Large t Nowhere = t.large ≡ false
+abbrev pub Large : Totals → Option ℕ → Type 0
+Large t (Some p) = (t.large ≡ true) × (p ≡ t.place)
+Large t None = t.large ≡ false
 
 pub data SomeOver (t : Totals) (short : Bool) : Type 0 where
   tasks : task_limit < t.tasks → SomeOver t short
@@ -72,11 +69,11 @@ abbrev pub AnyOver : Totals → Bool → Bool → Type 0
 AnyOver t short true = SomeOver t short
 AnyOver t short false = NoneOver t short
 
-abbrev pub Whole : List ℕ → Totals → Bool → Found → Type 0
-Whole text t short (At p) = SomeOver t short × (p ≡ length text)
-Whole text t short Nowhere = NoneOver t short
+abbrev pub Whole : List ℕ → Totals → Bool → Option ℕ → Type 0
+Whole text t short (Some p) = SomeOver t short × (p ≡ length text)
+Whole text t short None = NoneOver t short
 
-abbrev pub OverLimits : List ℕ → List ℕ → List ℕ → List ℕ → Totals → Bool → Found → Type 0
+abbrev pub OverLimits : List ℕ → List ℕ → List ℕ → List ℕ → Totals → Bool → Option ℕ → Type 0
 OverLimits text kinds places lengths t short r =
     (ts : List Lexical.Token) (g : List TopLevel) (its : Lexical.Tokens text 0 ts) → Stand (source text kinds places lengths) 0 ts → (s : Structure ts g) → Surveyed g t
     → Least (Over (short ≡ true) text its s) (spot r)
@@ -105,15 +102,19 @@ pub record Accepted (text x : List ℕ) (t : Table) (x' : List ℕ) (t' : Table)
   pub long : AsLong x' x t' t
   pub encoded : Encoded (flatten guideline) x' t'
 
+-- a refusal by its number and place
+abbrev pub refusal : ℕ → ℕ → Refused
+refusal n p = record { number = n; place = p }
+
 -- the tables x, t before, and x', t' after
-abbrev pub Outcome : List ℕ → List ℕ → Table → List ℕ → Table → Verdict → Type 0
-Outcome text x t x' t' (Fine n) = Accepted text x t x' t' n
-Outcome text x t x' t' (Refused n p) = Turned (Short x t) text n p × Empty x t x' t'
+abbrev pub Outcome : List ℕ → List ℕ → Table → List ℕ → Table → Result ℕ Refused → Type 0
+Outcome text x t x' t' (Ok n) = Accepted text x t x' t' n
+Outcome text x t x' t' (Err r) = Turned (Short x t) text r.number r.place × Empty x t x' t'
 
 -- over blank tables, where the tokens are a guideline of which nothing is left out
-pub record Limited (text kinds places lengths x : List ℕ) (t : Table) (x' : List ℕ) (t' : Table) (r : Verdict) : Type 0 where
+pub record Limited (text kinds places lengths x : List ℕ) (t : Table) (x' : List ℕ) (t' : Table) (r : Result ℕ Refused) : Type 0 where
   pub outcome : (l : Lexed text kinds places lengths) (g : List TopLevel) → Structure l.tokens g → Passed (Short x t) text 4 → Empty x t x t → Outcome text x t x' t' r
 
 -- over blank tables
-pub record Judges (text kinds places lengths x : List ℕ) (t : Table) (x' : List ℕ) (t' : Table) (r : Verdict) : Type 0 where
+pub record Judges (text kinds places lengths x : List ℕ) (t : Table) (x' : List ℕ) (t' : Table) (r : Result ℕ Refused) : Type 0 where
   pub outcome : Lexed text kinds places lengths → Empty x t x t → Outcome text x t x' t' r

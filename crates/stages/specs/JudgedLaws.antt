@@ -1,5 +1,5 @@
 -- From what each test finds to the outcome of all: the smallest of the three places of the limits, and the stages in their order.
-use Rattle.std.specs.Prelude.{ℕ, zero, suc, ◌+◌, ◌*◌, ◌≤◌, ◌<◌, ◌≡◌, refl, Bool, true, false, ◌||◌, List, [], ◌∷◌, leb, ltb, length, get_or, replicate}
+use Rattle.std.specs.Prelude.{ℕ, zero, suc, ◌+◌, ◌*◌, ◌≤◌, ◌<◌, ◌≡◌, refl, Bool, true, false, ◌||◌, List, [], ◌∷◌, leb, ltb, length, get_or, replicate, Option, Some, None, Result, Ok, Err}
 use Rattle.std.proofs.Common.{arith, sym, ap, subst, ◌∙◌, ⊎_elim, leb-true, leb-false, le-leb, ltb-true, ltb-false, lt-ltb}
 use Rattle.std.proofs.lemmas.Bool.{lt-leb}
 use Rattle.paper_expressions.proofs.Laws.Tests.{two}
@@ -26,16 +26,13 @@ use Rattle.guideline_walk.specs.declared.Totals.{Totals}
 use Rattle.guideline_walk.specs.Made.{Given, Walks, Walked, Roomy}
 use Rattle.guideline_walk.specs.Encodes.{laid_encoded}
 use Rattle.guideline_walk.specs.Surveyed.{Surveyed, surveyed, all_parts}
-use Rattle.token_tests.specs.declared.Found.{Found}
-use Rattle.token_tests.specs.declared.Found.TheVariants.{At, Nowhere}
 use Rattle.token_tests.specs.Reply.{First, OverLimit}
-use Rattle.stages.specs.declared.Verdict.{Verdict}
-use Rattle.stages.specs.declared.Verdict.TheVariants.{Fine, Refused}
+use Rattle.stages.specs.declared.Refused.{Refused}
 use Rattle.stages.specs.Least.{Least, least, Either, least_either}
 use Rattle.stages.specs.Stages.{Passed, PlaceOf, of_token, of_end, early_passed, grammar_refused, grammar_passed, left_out_refused, left_out_passed}
 use Rattle.stages.specs.Limits.{CountOver, tasks_over, data_items_over, parts_over, assignments_over, sources_over, short_over, WholeOver, Over, limit_refused, limit_passed}
 use Rattle.columns.specs.Columns.{Lexed}
-use Rattle.stages.specs.Judged.{spot, Places, Sentences, Large, SomeOver, tasks, items, parts, assignments, sources, tables, NoneOver, AnyOver, Whole, OverLimits, is_short, Short, Empty, Limited, Judges}
+use Rattle.stages.specs.Judged.{spot, Places, Sentences, Large, SomeOver, tasks, items, parts, assignments, sources, tables, NoneOver, AnyOver, Whole, OverLimits, is_short, Short, Empty, refusal, Limited, Judges}
 use Rattle.columns.specs.Clean.{clean}
 use Rattle.paper_guideline.specs.Parts.{expressions}
 
@@ -44,10 +41,10 @@ contra e = absurd (let z : ◌≡◌ {A = ℕ} 0 1 = cc in omega arith)
 
 -- ---- the limits
 
-large_least : (g : List TopLevel) (t : Totals) (r : Found) → Surveyed g t → Large t r → Least (TooLarge g) (spot r)
-large_least g t (At p) s l =
+large_least : (g : List TopLevel) (t : Totals) (r : Option ℕ) → Surveyed g t → Large t r → Least (TooLarge g) (spot r)
+large_least g t (Some p) s l =
     (subst (TooLarge g) (sym l.1) (s.large l.0), λ q h. let m = (s.least q h).1 in let e = l.1 in omega arith)
-large_least g t Nowhere s l = λ q h. contra (sym (s.least q h).0 ∙ l)
+large_least g t None s l = λ q h. contra (sym (s.least q h).0 ∙ l)
 
 some_count : (g : List TopLevel) (t : Totals) (short : Bool) → Surveyed g t → SomeOver t short → CountOver (short ≡ true) g
 some_count g t short s (tasks h) = tasks_over (let e = s.tasks in omega arith)
@@ -65,16 +62,16 @@ none_count g t short s n (assignments_over h) = let e = s.assignments in let l =
 none_count g t short s n (sources_over h) = let e = s.sources in let l = n.sources in omega arith
 none_count g t short s n (short_over h) = contra (sym h ∙ n.tables)
 
-whole_least : (text : List ℕ) (g : List TopLevel) (t : Totals) (short : Bool) (r : Found) → Surveyed g t → Whole text t short r → Least (WholeOver (short ≡ true) text g) (spot r)
-whole_least text g t short (At p) s w =
+whole_least : (text : List ℕ) (g : List TopLevel) (t : Totals) (short : Bool) (r : Option ℕ) → Surveyed g t → Whole text t short r → Least (WholeOver (short ≡ true) text g) (spot r)
+whole_least text g t short (Some p) s w =
     (record { over = some_count g t short s w.0; place = w.1 }, λ q h. let e = w.1 in let f = h.place in omega arith)
-whole_least text g t short Nowhere s w = λ q h. none_count g t short s w h.over
+whole_least text g t short None s w = λ q h. none_count g t short s w h.over
 
-first_least : (P : List Token → ℕ → Type 0) (c : Source) (ts : List Token) (r : Found) → Tokens c.text 0 ts → Stand c 0 ts → First P c r → Least (P ts) (spot r)
-first_least P c ts (At p) its st f = f ts its st
-first_least P c ts Nowhere its st f = f ts its st
+first_least : (P : List Token → ℕ → Type 0) (c : Source) (ts : List Token) (r : Option ℕ) → Tokens c.text 0 ts → Stand c 0 ts → First P c r → Least (P ts) (spot r)
+first_least P c ts (Some p) its st f = f ts its st
+first_least P c ts None its st f = f ts its st
 
-pub over_least : (text kinds places lengths : List ℕ) (t : Totals) (short : Bool) (a b d e r : Found)
+pub over_least : (text kinds places lengths : List ℕ) (t : Totals) (short : Bool) (a b d e r : Option ℕ)
     → First OverLimit (source text kinds places lengths) a → Large t b → Whole text t short d
     → spot e ≡ least (spot b) (spot d) → spot r ≡ least (spot a) (spot e) → OverLimits text kinds places lengths t short r
 over_least text kinds places lengths t short a b d e r f l w x y ts g its st s u =
@@ -85,16 +82,16 @@ over_least text kinds places lengths t short a b d e r f l w x y ts g its st s u
     subst (Least (Over (short ≡ true) text its s)) (sym y) whole
 
 -- of the two places
-pub both_up : (a b : Found) (p q : ℕ) → a ≡ At p → b ≡ At q → p ≤ q → spot (At p) ≡ least (spot a) (spot b)
+pub both_up : (a b : Option ℕ) (p q : ℕ) → a ≡ Some p → b ≡ Some q → p ≤ q → spot (Some p) ≡ least (spot a) (spot b)
 both_up a b p q e f h = rw (e, f, le-leb p q h)
 
-pub both_down : (a b : Found) (p q : ℕ) → a ≡ At p → b ≡ At q → q < p → spot (At q) ≡ least (spot a) (spot b)
+pub both_down : (a b : Option ℕ) (p q : ℕ) → a ≡ Some p → b ≡ Some q → q < p → spot (Some q) ≡ least (spot a) (spot b)
 both_down a b p q e f h = rw (e, f, lt-leb p q h)
 
-pub first_alone : (a b : Found) (p : ℕ) → a ≡ At p → b ≡ Nowhere → spot (At p) ≡ least (spot a) (spot b)
+pub first_alone : (a b : Option ℕ) (p : ℕ) → a ≡ Some p → b ≡ None → spot (Some p) ≡ least (spot a) (spot b)
 first_alone a b p e f = rw (e, f)
 
-pub second_alone : (a b : Found) → a ≡ Nowhere → spot b ≡ least (spot a) (spot b)
+pub second_alone : (a b : Option ℕ) → a ≡ None → spot b ≡ least (spot a) (spot b)
 second_alone a b e = rw e
 
 -- no count is passed: the tables decide
@@ -102,10 +99,10 @@ pub last_over : (t : Totals) (short : Bool) → t.tasks ≤ task_limit → t.ite
 last_over t true a b d e f = tables refl
 last_over t false a b d e f = record { tasks = a; items = b; parts = d; assignments = e; sources = f; tables = refl }
 
-pub whole_some : (text : List ℕ) (t : Totals) (short r : Bool) → r ≡ true → AnyOver t short r → Whole text t short (At (length text))
+pub whole_some : (text : List ℕ) (t : Totals) (short r : Bool) → r ≡ true → AnyOver t short r → Whole text t short (Some (length text))
 whole_some text t short r e h = (subst (AnyOver t short) e h, refl)
 
-pub whole_none : (text : List ℕ) (t : Totals) (short r : Bool) → r ≡ false → AnyOver t short r → Whole text t short Nowhere
+pub whole_none : (text : List ℕ) (t : Totals) (short r : Bool) → r ≡ false → AnyOver t short r → Whole text t short None
 whole_none text t short r e h = subst (AnyOver t short) e h
 
 -- ---- the tokens
@@ -180,7 +177,7 @@ same_empty a b c e = record { rows = e.rows ∙ ap (λ (n : ℕ). replicate n 0)
 -- ---- the outcome
 
 module _ (text kinds places lengths x : List ℕ) (t : Table) where
-  pub bad_token : (p : ℕ) → Sentences text kinds places (At p) → Judges text kinds places lengths x t x t (Refused 3 p)
+  pub bad_token : (p : ℕ) → Sentences text kinds places (Some p) → Judges text kinds places lengths x t x t (Err (refusal 3 p))
   bad_token p s = record {
     outcome = λ l e.
         let b = s (few_kinds l) in (
@@ -193,14 +190,14 @@ module _ (text kinds places lengths x : List ℕ) (t : Table) where
   sentence_passed : (l : Lexed text kinds places lengths) → SentenceOf ⟨process⟩ kinds → Passed (Short x t) text 3
   sentence_passed l d = grammar_passed (Short x t) text l.its l.are (early_passed (Short x t) text l.passed) d
 
-  pub left_out_there : (p : ℕ) → SentenceOf ⟨process⟩ kinds → First LeftOut (source text kinds places lengths) (At p) → Judges text kinds places lengths x t x t (Refused 10 p)
+  pub left_out_there : (p : ℕ) → SentenceOf ⟨process⟩ kinds → First LeftOut (source text kinds places lengths) (Some p) → Judges text kinds places lengths x t x t (Err (refusal 10 p))
   left_out_there p d f = record {
     outcome = λ l e.
         let h = f l.tokens l.its l.stand in
         (left_out_refused (Short x t) text l.its l.are (sentence_passed l d) h.0 h.1, e);
   }
 
-  pub nothing_left_out : {y : List ℕ} {u : Table} {r : Verdict} → SentenceOf ⟨process⟩ kinds → First LeftOut (source text kinds places lengths) Nowhere
+  pub nothing_left_out : {y : List ℕ} {u : Table} {r : Result ℕ Refused} → SentenceOf ⟨process⟩ kinds → First LeftOut (source text kinds places lengths) None
       → Limited text kinds places lengths x t y u r → Judges text kinds places lengths x t y u r
   nothing_left_out d f m = record {
     outcome = λ l e.
@@ -215,13 +212,13 @@ module _ {text kinds places lengths x y k l b d : List ℕ} {w : Totals} {short 
   walked v g s = walks.done v.tokens g (given v g s)
 
   -- what is found goes by the lent tables
-  by_tables : (r : Found) → OverLimits text kinds places lengths w short r → (v : Lexed text kinds places lengths) (g : List TopLevel) (s : Structure v.tokens g) → Least (Over (Short x (table k b)) text v.its s) (spot r)
+  by_tables : (r : Option ℕ) → OverLimits text kinds places lengths w short r → (v : Lexed text kinds places lengths) (g : List TopLevel) (s : Structure v.tokens g) → Least (Over (Short x (table k b)) text v.its s) (spot r)
   by_tables r h v g s =
       subst (λ (q : Bool). Least (Over (q ≡ true) text v.its s) (spot r)) es (h v.tokens g v.its v.stand s (surveyed g (walked v g s).tally))
 
-  pub past_limit : {y' l' d' : List ℕ} (p : ℕ) → OverLimits text kinds places lengths w short (At p) → length y ≡ length x → length l ≡ length k → length d ≡ length b → Empty y (table l d) y' (table l' d')
-      → Limited text kinds places lengths x (table k b) y' (table l' d') (Refused 6 p)
-  past_limit p h ly ll ld e = record { outcome = λ v g s before blank. (limit_refused (Short x (table k b)) text v.its s before (by_tables (At p) h v g s), same_empty ly ll ld e) }
+  pub past_limit : {y' l' d' : List ℕ} (p : ℕ) → OverLimits text kinds places lengths w short (Some p) → length y ≡ length x → length l ≡ length k → length d ≡ length b → Empty y (table l d) y' (table l' d')
+      → Limited text kinds places lengths x (table k b) y' (table l' d') (Err (refusal 6 p))
+  past_limit p h ly ll ld e = record { outcome = λ v g s before blank. (limit_refused (Short x (table k b)) text v.its s before (by_tables (Some p) h v g s), same_empty ly ll ld e) }
 
   -- there is room for a guideline that breaks no limit
   roomy : (v : Lexed text kinds places lengths) (g : List TopLevel) → Structure v.tokens g → Passed (Short x (table k b)) text 5 → Roomy (source text kinds places lengths) x k b (flatten g)
@@ -242,11 +239,11 @@ module _ {text kinds places lengths x y k l b d : List ℕ} {w : Totals} {short 
         bytes = room_enough v.its (structure_flat s) (short_text v) r.bytes;
       }
 
-  pub all_within : OverLimits text kinds places lengths w short Nowhere → length y ≡ length x → length l ≡ length k → length d ≡ length b
-      → Limited text kinds places lengths x (table k b) y (table l d) (Fine w.rows)
+  pub all_within : OverLimits text kinds places lengths w short None → length y ≡ length x → length l ≡ length k → length d ≡ length b
+      → Limited text kinds places lengths x (table k b) y (table l d) (Ok w.rows)
   all_within h ly ll ld = record {
     outcome = λ v g s before e.
-        let passed = limit_passed (Short x (table k b)) text v.its s before (by_tables Nowhere h v g s) in
+        let passed = limit_passed (Short x (table k b)) text v.its s before (by_tables None h v g s) in
         let wk = walked v g s in
         record {
           guideline = g;

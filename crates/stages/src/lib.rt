@@ -13,13 +13,12 @@ use grammar::{Answer, Start};
 use leaves::cell;
 use limiting::over_limits;
 use limits::Refusal;
-use token_tests::Found;
 
-// The number of rows, or number and place of the refusal.
-#[derive(Drop)]
-pub enum Verdict {
-    Fine(usize),
-    Refused(u8, usize),
+// A refusal: its number, and the place where it is told.
+#[derive(Clone, Copy, PartialEq, Eq)]
+pub struct Refused {
+    pub number: u8,
+    pub place: usize,
 }
 
 // The place of the i-th token; behind the last, the text's length.
@@ -34,13 +33,13 @@ fn place_of(text: &[u8], kinds: &[u8], places: &[usize], i: usize) -> usize
 }
 
 // Refusal 3: the first token that no guideline can have there.
-fn first_bad(text: &[u8], kinds: &[u8], places: &[usize]) -> Found
+fn first_bad(text: &[u8], kinds: &[u8], places: &[usize]) -> Option<usize>
     ensures { Sentences text.now kinds.now places.now result }
 {
     match grammar::read(kinds, Start::Process) {
-        Answer::Accepted => Found::Nowhere,
-        Answer::Refused(i) => Found::At(place_of(text, kinds, places, i)),
-        Answer::Unread => Found::At(text.len()),
+        Answer::Accepted => None,
+        Answer::Refused(i) => Some(place_of(text, kinds, places, i)),
+        Answer::Unread => Some(text.len()),
     }
 }
 
@@ -53,7 +52,7 @@ pub fn blank(rows: &mut [u32], cells: &mut [u32], bytes: &mut [u8])
     clear_bytes(bytes);
 }
 
-// The limits that are tested after what is left out, on one walk over the tokens.
+// The limits that are tested after what is left out, on one walk over the tokens: the number of rows, or the refusal.
 fn within_limits(
     text: &[u8],
     kinds: &[u8],
@@ -62,21 +61,24 @@ fn within_limits(
     rows: &mut [u32],
     cells: &mut [u32],
     bytes: &mut [u8],
-) -> Verdict
+) -> Result<usize, Refused>
     ensures { Limited text.now kinds.now places.now lengths.now rows.old (table cells.old bytes.old) rows.new (table cells.new bytes.new) result }
 {
     let short = room::short(rows.len(), cells.len(), bytes.len());
     let w = guideline_walk::walk(text, kinds, places, lengths, rows, cells, bytes);
     match over_limits(text, kinds, places, lengths, w, short) {
-        Found::At(p) => {
+        Some(place) => {
             blank(rows, cells, bytes);
-            Verdict::Refused(Refusal::LIMIT, p)
+            Err(Refused {
+                number: Refusal::LIMIT,
+                place,
+            })
         }
-        Found::Nowhere => Verdict::Fine(w.rows),
+        None => Ok(w.rows),
     }
 }
 
-// Tests 3, 10 and 6, in this order, over blank tables: those of an accepted text are written, and those of a refused one blank again.
+// Tests 3, 10 and 6, in this order, over blank tables, for the number of rows or the refusal: the tables of an accepted text are written, and those of a refused one blank again.
 pub fn judge(
     text: &[u8],
     kinds: &[u8],
@@ -85,20 +87,20 @@ pub fn judge(
     rows: &mut [u32],
     cells: &mut [u32],
     bytes: &mut [u8],
-) -> Verdict
+) -> Result<usize, Refused>
     ensures { Judges text.now kinds.now places.now lengths.now rows.old (table cells.old bytes.old) rows.new (table cells.new bytes.new) result }
 {
-    match first_bad(text, kinds, places) {
-        Found::At(p) => {
-            return Verdict::Refused(Refusal::GRAMMAR, p);
-        }
-        Found::Nowhere => {}
+    if let Some(place) = first_bad(text, kinds, places) {
+        return Err(Refused {
+            number: Refusal::GRAMMAR,
+            place,
+        });
     }
-    match token_tests::left_out(text, kinds, places, lengths) {
-        Found::At(p) => {
-            return Verdict::Refused(Refusal::LEFT_OUT, p);
-        }
-        Found::Nowhere => {}
+    if let Some(place) = token_tests::left_out(text, kinds, places, lengths) {
+        return Err(Refused {
+            number: Refusal::LEFT_OUT,
+            place,
+        });
     }
     within_limits(text, kinds, places, lengths, rows, cells, bytes)
 }

@@ -5,30 +5,23 @@ ghost use Rattle.stages.specs.Judged.{spot, Large, Whole, OverLimits, AnyOver};
 
 use guideline_walk::Totals;
 use limits::{Assignments, DataItems, Expressions, Sources, Tasks};
-use token_tests::Found;
 
 // The smaller of two places, if there are any.
-fn earlier(a: Found, b: Found) -> Found
+fn earlier(a: Option<usize>, b: Option<usize>) -> Option<usize>
     ensures { spot result ≡ least (spot a) (spot b) }
 {
-    match a {
-        Found::Nowhere => b,
-        Found::At(p) => match b {
-            Found::Nowhere => Found::At(p),
-            Found::At(q) => Found::At(p.min(q)),
-        },
+    match (a, b) {
+        (Some(p), Some(q)) => Some(p.min(q)),
+        (None, _) => b,
+        _ => a,
     }
 }
 
 // The first expression that is too deep or has a list that is too long.
-fn large(t: Totals) -> Found
+fn large(t: Totals) -> Option<usize>
     ensures { Large t result }
 {
-    if t.large {
-        Found::At(t.place)
-    } else {
-        Found::Nowhere
-    }
+    if t.large { Some(t.place) } else { None }
 }
 
 // Whether a whole count is passed, or a lent table is too short.
@@ -44,13 +37,13 @@ fn any_over(t: Totals, short: bool) -> bool
 }
 
 // That, at the text's length.
-fn whole(text: &[u8], t: Totals, short: bool) -> Found
+fn whole(text: &[u8], t: Totals, short: bool) -> Option<usize>
     ensures { Whole text.now t short result }
 {
     if any_over(t, short) {
-        Found::At(text.len())
+        Some(text.len())
     } else {
-        Found::Nowhere
+        None
     }
 }
 
@@ -62,7 +55,7 @@ pub fn over_limits(
     lengths: &[usize],
     t: Totals,
     short: bool,
-) -> Found
+) -> Option<usize>
     ensures { OverLimits text.now kinds.now places.now lengths.now t short result }
 {
     let token = token_tests::past_limit(text, kinds, places, lengths);

@@ -1,6 +1,6 @@
 -- A walk over the tokens finds the first place: by a test of each token that decides whether one breaks the stage there. Places rise.
 -- Law: at most one reply meets the contract.
-use Rattle.std.specs.Prelude.{ℕ, suc, ◌+◌, ◌≤◌, ◌<◌, ◌≡◌, refl, Bool, true, false, cond, ◌||◌, ◌⊎◌, List, [], ◌∷◌, leb, ltb, length, get_or}
+use Rattle.std.specs.Prelude.{ℕ, suc, ◌+◌, ◌≤◌, ◌<◌, ◌≡◌, refl, Bool, true, false, cond, ◌||◌, ◌⊎◌, List, [], ◌∷◌, leb, ltb, length, get_or, Option, Some, None}
 use Rattle.std.proofs.Common.{sym, ap, subst, ◌∙◌, ⊎_elim, arith, ltb-true, ltb-false, le-leb}
 use Rattle.std.proofs.lemmas.Bool.{lt-leb}
 use Rattle.paper_expressions.proofs.Laws.Tests.{two}
@@ -9,8 +9,6 @@ use Rattle.parts.specs.Texts.{cells}
 use Rattle.leaves.specs.Cells.{part_cells}
 use Rattle.leaves.specs.Source
 use Source.{Source, Here, Stand, at_token}
-use Rattle.token_tests.specs.declared.Found.{Found}
-use Rattle.token_tests.specs.declared.Found.TheVariants.{At, Nowhere}
 use Rattle.token_tests.specs.Reply.{First}
 
 pub or_right : (a b : Bool) → b ≡ true → (a || b) ≡ true
@@ -89,22 +87,22 @@ module _ {P : List Token → ℕ → Type 0} {test : Source → ℕ → Bool} (d
         none_from k g b q (d.no (record { here = h; behind = g; matches = x.fits.matches }) (b i h.inside) a)
 
     -- the m-th is the first that the test tells
-    pub first_is : (m : ℕ) → m < length c.kinds → ((j : ℕ) → j < m → test c j ≡ false) → test c m ≡ true → First P c (At (get_or c.places m 0))
+    pub first_is : (m : ℕ) → m < length c.kinds → ((j : ℕ) → j < m → test c j ≡ false) → test c m ≡ true → First P c (Some (get_or c.places m 0))
     first_is m u b y ts k g = first_from m k g (omega arith) u b y
 
-    pub none_is : ((j : ℕ) → j < length c.kinds → test c j ≡ false) → First P c Nowhere
+    pub none_is : ((j : ℕ) → j < length c.kinds → test c j ≡ false) → First P c None
     none_is b ts k g = none_from k g b
 
 -- ---- at most one reply
 
 pub one_found : (P : List Token → ℕ → Type 0) {c : Source} {ts : List Token} → Tokens c.text 0 ts → Stand c 0 ts
-    → (r s : Found) → First P c r → First P c s → r ≡ s
-one_found P {ts = ts} k g (At p) (At q) a b =
+    → (r s : Option ℕ) → First P c r → First P c s → r ≡ s
+one_found P {ts = ts} k g (Some p) (Some q) a b =
     let x = a ts k g in
     let y = b ts k g in
     let l = x.1 q y.0 in
     let u = y.1 p x.0 in
-    ap At (let e : p ≡ q = omega arith in e)
-one_found P {ts = ts} k g (At p) Nowhere a b = absurd (b ts k g p (a ts k g).0)
-one_found P {ts = ts} k g Nowhere (At q) a b = absurd (a ts k g q (b ts k g).0)
-one_found P k g Nowhere Nowhere a b = refl
+    ap Some (let e : p ≡ q = omega arith in e)
+one_found P {ts = ts} k g (Some p) None a b = absurd (b ts k g p (a ts k g).0)
+one_found P {ts = ts} k g None (Some q) a b = absurd (a ts k g q (b ts k g).0)
+one_found P k g None None a b = refl

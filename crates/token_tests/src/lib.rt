@@ -17,13 +17,6 @@ use leaves::{cell, fits};
 use parts::byte;
 use sizes::{Limit, is_past_limit, past};
 
-// The place of a token, or that there is none.
-#[derive(Drop)]
-pub enum Found {
-    At(usize),
-    Nowhere,
-}
-
 // The tests on one token: whether it names something left out, whether it is past a limit.
 #[derive(Clone, Copy)]
 enum Test {
@@ -60,26 +53,32 @@ fn fails_at(
 }
 
 // The first token that fails it.
-fn first(test: Test, text: &[u8], kinds: &[u8], places: &[usize], lengths: &[usize]) -> Found
+fn first(
+    test: Test,
+    text: &[u8],
+    kinds: &[u8],
+    places: &[usize],
+    lengths: &[usize],
+) -> Option<usize>
     ensures { First (Breaks test) (source text.now kinds.now places.now lengths.now) result }
 {
     for i in 0..kinds.len() {
         if fails_at(test, text, kinds, places, lengths, i) {
-            return Found::At(cell(places, i));
+            return Some(cell(places, i));
         }
     }
-    Found::Nowhere
+    None
 }
 
 // Refusal 10: the first token that names something that the first edition leaves out.
-pub fn left_out(text: &[u8], kinds: &[u8], places: &[usize], lengths: &[usize]) -> Found
+pub fn left_out(text: &[u8], kinds: &[u8], places: &[usize], lengths: &[usize]) -> Option<usize>
     ensures { First LeftOut (source text.now kinds.now places.now lengths.now) result }
 {
     first(Test::Edition, text, kinds, places, lengths)
 }
 
 // Refusal 6 by one token: the first name, text or number that is past its limit.
-pub fn past_limit(text: &[u8], kinds: &[u8], places: &[usize], lengths: &[usize]) -> Found
+pub fn past_limit(text: &[u8], kinds: &[u8], places: &[usize], lengths: &[usize]) -> Option<usize>
     ensures { First OverLimit (source text.now kinds.now places.now lengths.now) result }
 {
     first(Test::Size, text, kinds, places, lengths)

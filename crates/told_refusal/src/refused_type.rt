@@ -2,7 +2,6 @@
 use crate::{leaf, typed};
 use explain_rows::firsts::begun_at;
 use limits::{Expressions, Guideline, Rows};
-use reading::Reading;
 use row_tests::cells::first_part;
 use sentences::slips::Sheet;
 use sentences::write;
@@ -28,7 +27,7 @@ pub fn of_expression(text: &[u8], kinds: &[u8], places: &[usize], i: usize, plac
     let mut rows = [0u32; Rows::CELLS];
     let mut cells = [0u32; Expressions::CELLS];
     let mut bytes = [0u8; Guideline::LIMIT];
-    if let Reading::Reads(n) = reading::read(text, &mut rows, &mut cells, &mut bytes) {
+    if let Ok(n) = reading::read(text, &mut rows, &mut cells, &mut bytes) {
         let sheet = Sheet {
             text,
             rows: &rows,

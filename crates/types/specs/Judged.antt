@@ -1,5 +1,5 @@
 -- What is promised of the answer: the smallest place at which an expression has no fitting type, or that there is none; and of each step. Definitions only.
-use Rattle.std.specs.Prelude.{ℕ, ◌+◌, ◌≤◌, ◌<◌, ◌≡◌, Bool, List, length, take}
+use Rattle.std.specs.Prelude.{ℕ, ◌+◌, ◌≤◌, ◌<◌, ◌≡◌, Bool, List, length, take, Option, Some, None}
 use Rattle.std.proofs.Math.Option.{some}
 use Rattle.paper_expressions.specs.View.{At}
 use Rattle.paper_expressions.proofs.Laws.Search.{Reflects}
@@ -13,9 +13,6 @@ use Rattle.parts.specs.Items.{Items}
 use Rattle.guideline_rows.specs.Rows.{Row, flatten}
 use Rattle.guideline_rows.specs.Encoded.{Encoded}
 use Rattle.guideline_rows.specs.InLimits.{InLimits}
-use Rattle.row_tests.specs.declared.Found as Found
-use Found.{Found}
-use Found.TheVariants as Answer
 use Rattle.row_tests.specs.Table.{row_limit, cell_of}
 use Rattle.row_tests.specs.Least.{Least}
 use Rattle.types.specs.Roles.{asks}
@@ -31,9 +28,9 @@ pub record Misfit (g : List TopLevel) (p : ℕ) : Type 0 where
   pub there : p ≡ x.expression.start
 
 -- the answer for a guideline
-abbrev pub ToldOf : List TopLevel → Found → Type 0
-ToldOf g (Answer.At p) = Misfit g p × ((q : ℕ) → Misfit g q → p ≤ q)
-ToldOf g Answer.Nowhere = (q : ℕ) → ¬ Misfit g q
+abbrev pub ToldOf : List TopLevel → Option ℕ → Type 0
+ToldOf g (Some p) = Misfit g p × ((q : ℕ) → Misfit g q → p ≤ q)
+ToldOf g None = (q : ℕ) → ¬ Misfit g q
 
 -- the tables hold the n rows of the guideline, which is within the limits and breaks no rule on names
 pub record Given (x : List ℕ) (n : ℕ) (t : Table) (g : List TopLevel) : Type 0 where
@@ -44,11 +41,11 @@ pub record Given (x : List ℕ) (n : ℕ) (t : Table) (g : List TopLevel) : Type
   pub few_items : length (data_items g) ≤ data_item_limit
   pub names : (p : ℕ) → ¬ NameBreach g p
 
-abbrev pub Judged : List ℕ → ℕ → Table → Found → Type 0
+abbrev pub Judged : List ℕ → ℕ → Table → Option ℕ → Type 0
 Judged x n t r = (g : List TopLevel) → Given x n t g → ToldOf g r
 
 -- where the first m cells of the columns are the items
-abbrev pub JudgedWith : List ℕ → ℕ → Table → List ℕ → List ℕ → ℕ → Found → Type 0
+abbrev pub JudgedWith : List ℕ → ℕ → Table → List ℕ → List ℕ → ℕ → Option ℕ → Type 0
 JudgedWith x n t names types m r = (g : List TopLevel) → Given x n t g → Items t.bytes (take m names) types (declared_items g) → ToldOf g r
 
 -- ---- the steps
@@ -65,9 +62,9 @@ abbrev pub Unfits : List ℕ → Table → List ℕ → List ℕ → ℕ → Boo
 Unfits x t names types j r = (n : ℕ) (g : List TopLevel) → Given x n t g → Items t.bytes names types (declared_items g) → j < n → Reflects (Unfit g j) r
 
 -- the smallest place of those among the first i rows
-abbrev pub AllMisfits : List ℕ → Table → List ℕ → List ℕ → ℕ → Found → Type 0
+abbrev pub AllMisfits : List ℕ → Table → List ℕ → List ℕ → ℕ → Option ℕ → Type 0
 AllMisfits x t names types i r =
     (n : ℕ) (g : List TopLevel) → Given x n t g → Items t.bytes names types (declared_items g) → i ≤ n → Least (λ j. (j < i) × Unfit g j) (λ j. cell_of x j 5) r
 
-abbrev pub Judges : List ℕ → Table → List ℕ → List ℕ → ℕ → Found → Found → Type 0
+abbrev pub Judges : List ℕ → Table → List ℕ → List ℕ → ℕ → Option ℕ → Option ℕ → Type 0
 Judges x t names types j best r = AllMisfits x t names types j best → AllMisfits x t names types (j + 1) r

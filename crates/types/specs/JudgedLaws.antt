@@ -1,7 +1,7 @@
 -- Laws: a row's expression is judged by the typer; one row more; and from the rows to the expressions of the guideline. By what the row asks for.
-use Rattle.std.specs.Prelude.{ℕ, zero, suc, ◌+◌, ◌*◌, ◌≤◌, ◌<◌, ◌≡◌, refl, Bool, true, false, cond, not, ◌⊎◌, List, [], ◌∷◌, eqb, length, get_or, take}
+use Rattle.std.specs.Prelude.{ℕ, zero, suc, ◌+◌, ◌*◌, ◌≤◌, ◌<◌, ◌≡◌, refl, Bool, true, false, cond, not, ◌⊎◌, List, [], ◌∷◌, eqb, length, get_or, take, Option, Some, None}
 use Rattle.std.proofs.Common.{sym, ap, subst, ◌∙◌, inl, inr, ⊎_elim, arith, eqb-true}
-use Rattle.std.proofs.Math.Option.{Option, none, some}
+use Rattle.std.proofs.Math.Option.{Option as Maybe, none, some}
 use Rattle.std.proofs.Math.Decide.{dec_lt}
 use Rattle.std.proofs.lemmas.List.{length-map}
 use Rattle.paper_expressions.specs.Expressions.{Expr, Atom, IntegerLit, FloatLit, StringLit, Paren, Listing, Apply}
@@ -27,9 +27,6 @@ use Rattle.guideline_rows.specs.RowLaws.{stands, kind_cell, start_cell, end_cell
 use Rattle.row_names.specs.Pieces.{at_map, map_at}
 use Rattle.row_names.specs.Selected.{kept_at, kept_of, kept_rank, kept_index}
 use Rattle.row_names.specs.Agreement.{row_named}
-use Rattle.row_tests.specs.declared.Found as Found
-use Found.{Found}
-use Found.TheVariants as Answer
 use Rattle.row_tests.specs.Table.{row_limit, cell_of}
 use Rattle.row_tests.specs.EncodedSheet.{cell_is}
 use Rattle.row_tests.specs.Least.{Least, nearer, least_as, least_more}
@@ -150,14 +147,14 @@ module _ (x : List ℕ) (t : Table) (names types : List ℕ) (j : ℕ) where
                 (role-of x t.bytes j r s (cell-of given h 0 ∙ kind_cell k) (λ w. row_named g h (rw w refl)) (λ m w. ap (text_at_fn t.bytes) (cell-of given h 2) ∙ name_spelt k w (given.limits.names h w)));
           }
 
-      go : (r : Row) → At (flatten g) j r → (o : Option Typed) → asks r ≡ o → Reflects (Unfit g j) (not f)
+      go : (r : Row) → At (flatten g) j r → (o : Maybe Typed) → asks r ≡ o → Reflects (Unfit g j) (not f)
       go r h none s = absurd (z (q ∙ end_none given h (unasked r s)))
       go r h (some y) s = judged r h y s (fits (declared_items g) y (holds r h y s))
 
 -- ---- one row more
 
 module _ (x : List ℕ) (t : Table) (names types : List ℕ) where
-  pub misfits_none : AllMisfits x t names types 0 Answer.Nowhere
+  pub misfits_none : AllMisfits x t names types 0 None
   misfits_none n g given items u j h = let z = h.0 in omega arith
 
   module _ {g : List TopLevel} where
@@ -171,13 +168,13 @@ module _ (x : List ℕ) (t : Table) (names types : List ℕ) where
     wider : {i : ℕ} (j : ℕ) → (j < i) × Unfit g j → (j < i + 1) × Unfit g j
     wider j h = (let z = h.0 in omega arith, h.1)
 
-  pub judges_yes : (j : ℕ) (best : Found) {q : Bool} {p : ℕ} {r : Found} → Unfits x t names types j q → q ≡ true → p ≡ cell_of x j 5 → r ≡ nearer best p → Judges x t names types j best r
+  pub judges_yes : (j : ℕ) (best : Option ℕ) {q : Bool} {p : ℕ} {r : Option ℕ} → Unfits x t names types j q → q ≡ true → p ≡ cell_of x j 5 → r ≡ nearer best p → Judges x t names types j best r
   judges_yes j best {p = p} f e ep er h n g given items u =
       subst (Least (λ i. (i < j + 1) × Unfit g i) (λ i. cell_of x i 5)) (sym (er ∙ ap (nearer best) ep))
       (least_more (λ i. (i < j) × Unfit g i) (λ i. (i < j + 1) × Unfit g i) (λ i. cell_of x i 5) j best wider last_row
       (omega arith, true_reflects (f n g given items (omega arith)) e) (h n g given items (omega arith)))
 
-  pub judges_no : (j : ℕ) (best : Found) {q : Bool} → Unfits x t names types j q → q ≡ false → Judges x t names types j best best
+  pub judges_no : (j : ℕ) (best : Option ℕ) {q : Bool} → Unfits x t names types j q → q ≡ false → Judges x t names types j best best
   judges_no j best f e h n g given items u =
       least_as (λ i. (i < j) × Unfit g i) (λ i. (i < j + 1) × Unfit g i) (λ i. cell_of x i 5) best wider
       (λ i k. ⊎_elim (λ y. y) (λ s. absurd (false_reflects (f n g given items (omega arith)) e (subst (Unfit g) s k.1))) (last_row i k)) (h n g given items (omega arith))
@@ -207,16 +204,16 @@ module _ {x : List ℕ} {n : ℕ} {t : Table} {g : List TopLevel} (given : Given
         there = start_is given u.at (asked_expression u.row u.asked).0 ∙ ap (λ (y : Typed). y.expression.start) m.is;
       }
 
-  told : (r : Found) → Least (λ j. (j < n) × Unfit g j) (λ j. cell_of x j 5) r → ToldOf g r
-  told (Answer.At p) h = (
+  told : (r : Option ℕ) → Least (λ j. (j < n) × Unfit g j) (λ j. cell_of x j 5) r → ToldOf g r
+  told (Some p) h = (
     subst (Misfit g) (sym h.0.2) (from_row h.0.1.1),
     λ q m. let y = to_row m in let z = h.1 y.0 (y.1, y.2) in let e = y.3 in omega arith,
   )
-  told Answer.Nowhere h = λ q m. let y = to_row m in h y.0 (y.1, y.2)
+  told None h = λ q m. let y = to_row m in h y.0 (y.1, y.2)
 
 -- ---- the whole
 
-pub judged_with : (x : List ℕ) (n : ℕ) (t : Table) (names types : List ℕ) (m : ℕ) (r : Found) → AllMisfits x t (take m names) types n r → JudgedWith x n t names types m r
+pub judged_with : (x : List ℕ) (n : ℕ) (t : Table) (names types : List ℕ) (m : ℕ) (r : Option ℕ) → AllMisfits x t (take m names) types n r → JudgedWith x n t names types m r
 judged_with x n t names types m r f g given items = told given r (f n g given items (omega arith))
 
 take_long : (m : ℕ) (l : List ℕ) → m ≤ length l → length (take m l) ≡ m
@@ -240,7 +237,7 @@ columns_hold {b} {l} {k} {v} {m} u w h = record {
     inside : {d : ℕ} {y : Item} → At v.items d y → d < m
     inside p = let c = h.count in omega (arith, index_of p)
 
-pub too_long : (x : List ℕ) (n : ℕ) (t : Table) → row_limit < n → Judged x n t Answer.Nowhere
+pub too_long : (x : List ℕ) (n : ℕ) (t : Table) → row_limit < n → Judged x n t None
 too_long x n t l g given = absurd (let f = given.few_rows in omega arith)
 
 -- what is gathered of the rows of a guideline: no more items than the limit, and columns that hold them
@@ -262,16 +259,16 @@ module _ {x : List ℕ} {n : ℕ} (t : Table) {l k l' k' : List ℕ} {m : ℕ} (
       let u = few_gathered in
       columns_hold (omega arith) (omega arith) held
 
-pub too_many : {x : List ℕ} {n : ℕ} (t : Table) {l k l' k' : List ℕ} {m : ℕ} → Gathers x n l k l' k' m → data_item_limit < m → Judged x n t Answer.Nowhere
+pub too_many : {x : List ℕ} {n : ℕ} (t : Table) {l k l' k' : List ℕ} {m : ℕ} → Gathers x n l k l' k' m → data_item_limit < m → Judged x n t None
 too_many t h u g given = absurd (let f = few_gathered t h given in omega arith)
 
-pub concluded : {x : List ℕ} {n : ℕ} (t : Table) {l k l' k' : List ℕ} {m : ℕ} (r : Found) → Gathers x n l k l' k' m → length l ≡ data_item_limit → length k ≡ data_item_limit
+pub concluded : {x : List ℕ} {n : ℕ} (t : Table) {l k l' k' : List ℕ} {m : ℕ} (r : Option ℕ) → Gathers x n l k l' k' m → length l ≡ data_item_limit → length k ≡ data_item_limit
     → JudgedWith x n t l' k' m r → Judged x n t r
 concluded t r h el ek f g given = f g given (gathered_items t h given el ek)
 
 -- at most one answer
-pub one_told : (g : List TopLevel) (r s : Found) → ToldOf g r → ToldOf g s → r ≡ s
-one_told g (Answer.At p) (Answer.At q) h k = ap Answer.At (let a = h.1 q k.0 in let b = k.1 p h.0 in let e : p ≡ q = omega arith in e)
-one_told g (Answer.At p) Answer.Nowhere h k = absurd (k p h.0)
-one_told g Answer.Nowhere (Answer.At q) h k = absurd (h q k.0)
-one_told g Answer.Nowhere Answer.Nowhere h k = refl
+pub one_told : (g : List TopLevel) (r s : Option ℕ) → ToldOf g r → ToldOf g s → r ≡ s
+one_told g (Some p) (Some q) h k = ap Some (let a = h.1 q k.0 in let b = k.1 p h.0 in let e : p ≡ q = omega arith in e)
+one_told g (Some p) None h k = absurd (k p h.0)
+one_told g None (Some q) h k = absurd (h q k.0)
+one_told g None None h k = refl

@@ -12,7 +12,6 @@ ghost use Rattle.types.specs.Judged.{Judged, JudgedWith};
 use columns::gather;
 use limits::DataItems;
 use misfits::misfits;
-use row_tests::Found;
 use row_tests::cells::ROWS;
 
 // With the columns of the first `m` data items.
@@ -24,7 +23,7 @@ fn judged(
     names: &[u32],
     types: &[u8],
     m: usize,
-) -> Found
+) -> Option<usize>
     requires { m ≤ length names.now }
     ensures { JudgedWith rows.now n (table cells.now bytes.now) names.now types.now m result }
 {
@@ -32,17 +31,17 @@ fn judged(
 }
 
 // The first `n` rows of a guideline of at most 64 data items, of which no rule on names is broken.
-pub fn check(rows: &[u32], n: usize, cells: &[u32], bytes: &[u8]) -> Found
+pub fn check(rows: &[u32], n: usize, cells: &[u32], bytes: &[u8]) -> Option<usize>
     ensures { Judged rows.now n (table cells.now bytes.now) result }
 {
     if ROWS < n {
-        return Found::Nowhere;
+        return None;
     }
     let mut names = [0u32; DataItems::LIMIT];
     let mut types = [0u8; DataItems::LIMIT];
     let m = gather(rows, n, &mut names, &mut types);
     if DataItems::LIMIT < m {
-        return Found::Nowhere;
+        return None;
     }
     judged(rows, n, cells, bytes, &names, &types, m)
 }

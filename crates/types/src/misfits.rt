@@ -6,7 +6,6 @@ ghost use Rattle.types.specs.Judged.{Unfits, Judges, AllMisfits};
 
 use guideline_rows::Kind;
 use limits::Expression;
-use row_tests::Found;
 use row_tests::cells::{begin, end, handle, kind};
 use row_tests::least::nearer;
 use typer::fits;
@@ -64,8 +63,8 @@ fn judge(
     names: &[u32],
     types: &[u8],
     j: usize,
-    best: Found,
-) -> Found
+    best: Option<usize>,
+) -> Option<usize>
     ensures { Judges rows.now (table cells.now bytes.now) names.now types.now j best result }
 {
     if unfit(rows, cells, bytes, names, types, j) {
@@ -83,10 +82,10 @@ pub fn misfits(
     bytes: &[u8],
     names: &[u32],
     types: &[u8],
-) -> Found
+) -> Option<usize>
     ensures { AllMisfits rows.now (table cells.now bytes.now) names.now types.now n result }
 {
-    let mut best = Found::Nowhere;
+    let mut best = None;
     for j in 0..n {
         best = judge(rows, cells, bytes, names, types, j, best);
     }

@@ -2,8 +2,8 @@
 use Rattle.answering.specs.Laws.{well_named, ill_named}
 use Rattle.answering.proofs.named.Goals as goal
 
-pub returns-in-Nowhere : goal.returns-in-Nowhere
-returns-in-Nowhere c = well_named c.check.result c.check.ensures c.in-Nowhere.is c.typed.ensures
+pub returns-in-None : goal.returns-in-None
+returns-in-None c = well_named c.check.result c.check.ensures c.in-None.is c.typed.ensures
 
-pub returns-in-At : goal.returns-in-At
-returns-in-At c = ill_named c.check.result c.check.ensures c.in-At.is c.blank.ensures
+pub returns-in-Some : goal.returns-in-Some
+returns-in-Some c = ill_named c.check.result c.check.ensures c.in-Some.is c.blank.ensures

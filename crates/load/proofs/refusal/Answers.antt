@@ -3,8 +3,8 @@ use Rattle.std.proofs.Common.{refl}
 use Rattle.load.specs.LoadsLaws.{not_taken, refused_short}
 use Rattle.load.proofs.refusal.Goals as goal
 
-pub returns-in-Loads : goal.returns-in-Loads
-returns-in-Loads c = not_taken c.judge.ensures refl c.in-Loads.is
+pub returns-in-Ok : goal.returns-in-Ok
+returns-in-Ok c = not_taken c.judge.ensures refl c.in-Ok.is
 
-pub returns-in-Refused : goal.returns-in-Refused
-returns-in-Refused c = refused_short c.judge.ensures refl c.in-Refused.is
+pub returns-in-Err : goal.returns-in-Err
+returns-in-Err c = refused_short c.judge.ensures refl c.in-Err.is

@@ -3,17 +3,17 @@ use Rattle.parts.specs.Part.{table}
 use Rattle.stages.specs.JudgedLaws.{bad_token, left_out_there, nothing_left_out}
 use Rattle.stages.proofs.judge.Goals as goal
 
-pub returns-in-At : goal.returns-in-At
-returns-in-At c =
+pub returns-in-Some : goal.returns-in-Some
+returns-in-Some c =
     let s = c.args in
-    bad_token s.text.now s.kinds.now s.places.now s.lengths.now s.rows.now (table s.cells.now s.bytes.now) c.in-At.p c.in-At.ensures
+    bad_token s.text.now s.kinds.now s.places.now s.lengths.now s.rows.now (table s.cells.now s.bytes.now) c.in-Some.place c.in-Some.ensures
 
-pub returns-in-At-left_out : goal.returns-in-At-left_out
-returns-in-At-left_out c =
+pub returns-in-Some-left_out : goal.returns-in-Some-left_out
+returns-in-Some-left_out c =
     let s = c.args in
-    left_out_there s.text.now s.kinds.now s.places.now s.lengths.now s.rows.now (table s.cells.now s.bytes.now) c.in-At-left_out.p c.in-Nowhere.ensures c.in-At-left_out.ensures
+    left_out_there s.text.now s.kinds.now s.places.now s.lengths.now s.rows.now (table s.cells.now s.bytes.now) c.in-Some-left_out.place c.in_default.ensures c.in-Some-left_out.ensures
 
 pub returns : goal.returns
 returns c =
     let s = c.args in
-    nothing_left_out s.text.now s.kinds.now s.places.now s.lengths.now s.rows.now (table s.cells.now s.bytes.now) c.in-Nowhere.ensures c.in-Nowhere-left_out.ensures c.within_limits.ensures
+    nothing_left_out s.text.now s.kinds.now s.places.now s.lengths.now s.rows.now (table s.cells.now s.bytes.now) c.in_default.ensures c.in_default-left_out.ensures c.within_limits.ensures

@@ -2,10 +2,10 @@
 use Rattle.stages.specs.JudgedLaws.{past_limit, all_within}
 use Rattle.stages.proofs.within_limits.Goals as goal
 
-pub returns-in-At : goal.returns-in-At
-returns-in-At c =
-    past_limit c.short-short.ensures c.walk-w.ensures c.in-At.p c.in-At.ensures c.walk-w.auto.rows c.walk-w.auto.cells c.walk-w.auto.bytes c.blank.ensures
+pub returns-in-Some : goal.returns-in-Some
+returns-in-Some c =
+    past_limit c.short-short.ensures c.walk-w.ensures c.in-Some.place c.in-Some.ensures c.walk-w.auto.rows c.walk-w.auto.cells c.walk-w.auto.bytes c.blank.ensures
 
-pub returns-in-Nowhere : goal.returns-in-Nowhere
-returns-in-Nowhere c =
-    all_within c.short-short.ensures c.walk-w.ensures c.in-Nowhere.ensures c.walk-w.auto.rows c.walk-w.auto.cells c.walk-w.auto.bytes
+pub returns-in-None : goal.returns-in-None
+returns-in-None c =
+    all_within c.short-short.ensures c.walk-w.ensures c.in-None.ensures c.walk-w.auto.rows c.walk-w.auto.cells c.walk-w.auto.bytes

@@ -1,7 +1,7 @@
 -- `first`: the first token that fails the test is the first that breaks the stage, as the test decides it.
 use Rattle.std.proofs.Common.{ℕ, ◌≡◌, true, below_more, sym, subst, ◌∙◌, arith}
+use Rattle.std.specs.Prelude.{Some}
 use Rattle.leaves.specs.Source.{source}
-use Rattle.token_tests.specs.declared.Found.TheVariants.{At}
 use Rattle.token_tests.specs.Reply.{First}
 use Rattle.token_tests.specs.Walk.{first_is, none_is}
 use Rattle.token_tests.specs.Tests.{Breaks, fails_at, decides}
@@ -13,7 +13,7 @@ returns-then-fails_at c =
     let l = c.loop-i in
     let s = source a.text.now a.kinds.now a.places.now a.lengths.now in
     let y : fails_at a.test s l.i ≡ true = sym c.fails_at.ensures ∙ c.if-fails_at.true in
-    subst (λ (p : ℕ). First (Breaks a.test) s (At p)) (sym c.cell.ensures) (first_is (decides a.test) s l.i c.loop-i-test.true l.invariant y)
+    subst (λ (p : ℕ). First (Breaks a.test) s (Some p)) (sym c.cell.ensures) (first_is (decides a.test) s l.i c.loop-i-test.true l.invariant y)
 
 pub returns : goal.returns
 returns c =

@@ -4,8 +4,8 @@ use Rattle.line_answer.specs.Tests.{over, none_over, too_deep, too_long, too_man
 use Rattle.line_answer.specs.Table.{held}
 use Rattle.line_answer.proofs.tests.fit.Goals as goal
 
-pub returns-in-At : goal.returns-in-At
-returns-in-At c = record { fitted = over c.requires.parsed c.past_limit.ensures c.in-At.is }
+pub returns-in-Some : goal.returns-in-Some
+returns-in-Some c = record { fitted = over c.requires.parsed c.past_limit.ensures c.in-Some.is }
 
 pub returns-then-m-gt-DEPTH : goal.returns-then-m-gt-DEPTH
 returns-then-m-gt-DEPTH c =
