@@ -1,13 +1,14 @@
--- `found`: it is here, or not so far.
-use Rattle.std.proofs.Common.{arith}
-use Rattle.changes.specs.Push.{none_more, found_here}
+-- `found`: what `any` found of the rows.
+use Rattle.std.proofs.Common.{ℕ, refl, arith, tests, rules}
+use Rattle.std.proofs.lemmas.Iterator.{cases_from_any, YieldsList-from_range}
+use Rattle.changes.specs.Row.{Stands}
+use Rattle.changes.specs.Push.{found_any}
 use Rattle.changes.proofs.found.Goals as goal
 
-pub returns-then-is_row : goal.returns-then-is_row
-returns-then-is_row c = found_here _ _ _ _ _ _ _ c.if-is_row.true c.is_row.ensures (omega arith)
-
-pub loop-i-preserved : goal.loop-i-preserved
-loop-i-preserved c = none_more _ _ _ _ _ _ c.if-is_row.false c.is_row.ensures c.loop-i.invariant
-
 pub returns : goal.returns
-returns c = λ room j l. c.loop-i.invariant j (let z = c.bounded-i-end.ensures.2 room in omega arith)
+returns c =
+    let a = c.args in
+    let P : ℕ → Type 0 = λ i. Stands a.o.now i a.row.component a.row.property a.row.tag a.row.number in
+    let n = c.bounded.result in
+    found_any _ _ n _ _ _ _ c.any.result c.bounded.ensures.1 c.bounded.ensures.2
+    (cases_from_any _ _ _ P (λ k. ¬ (P k)) c.any.ensures.ran (YieldsList-from_range 0 n n refl (omega arith)) (λ x q k. search (rules, tests)) (λ x q k. search (rules, tests)))
