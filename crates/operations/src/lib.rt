@@ -5,7 +5,7 @@ ghost use Rattle.std.specs.Prelude.{◌≡◌, ◌+◌, ◌≤◌, ◌<◌, get_
 ghost use Rattle.operations.specs.Rows.{InitialiseRows, DiscardRows, AssignRow, AssignRows, CompleteRows};
 ghost use Rattle.operations.specs.Review.{ReviewRows};
 
-use changes::{Column, Row, State, Tag};
+use changes::{Column, Row, State};
 use limits::Assignments;
 use state::Plan;
 
@@ -14,11 +14,11 @@ fn initialise(f: &[u32], t: u32, out: &mut [u32], n: usize) -> usize
     ensures initialise_rows { InitialiseRows f.now t out.old n out.new result }
     ensures few { result ≤ n + 6 }
 {
-    let a = changes::push(out, n, t, Column::STATE, Tag::STATE, State::DORMANT);
-    let b = changes::push(out, a, t, Column::CYCLE_COUNT, Tag::COUNT, 0);
-    let c = changes::push(out, b, t, Column::START_AT, Tag::UNKNOWN, 0);
-    let d = changes::push(out, c, t, Column::TRIGGER_ACTIVE, Tag::TRUTH, 0);
-    let e = changes::push(out, d, t, Column::NBR_CYCLES_VALUE, Tag::UNKNOWN, 0);
+    let a = changes::push(out, n, Row::state(t, State::DORMANT));
+    let b = changes::push(out, a, Row::count(t, Column::CYCLE_COUNT, 0));
+    let c = changes::push(out, b, Row::unknown(t, Column::START_AT));
+    let d = changes::push(out, c, Row::truth(t, Column::TRIGGER_ACTIVE, false));
+    let e = changes::push(out, d, Row::unknown(t, Column::NBR_CYCLES_VALUE));
     starting::procedure(f, t, out, e)
 }
 
@@ -27,8 +27,8 @@ fn discard(t: u32, clock: u32, out: &mut [u32], n: usize) -> usize
     ensures discard_rows { DiscardRows clock t out.old n out.new result }
     ensures few { result ≤ n + 2 }
 {
-    let a = changes::push(out, n, t, Column::STATE, Tag::STATE, State::DISCARDED);
-    changes::push(out, a, t, Column::DISCARDED_TIME, Tag::TIME, clock)
+    let a = changes::push(out, n, Row::state(t, State::DISCARDED));
+    changes::push(out, a, Row::time(t, Column::DISCARDED_TIME, clock))
 }
 
 // The row of the assignment with the number `a`.
@@ -43,14 +43,7 @@ fn assign(f: &[u32], a: usize, out: &mut [u32], n: usize) -> usize
     if Row::ITEMS <= d {
         return n;
     }
-    changes::push(
-        out,
-        n,
-        Row::ITEM + d,
-        Column::VALUE,
-        Tag::ASSIGNED,
-        a as u32,
-    )
+    changes::push(out, n, Row::assigned(Row::ITEM + d, a as u32))
 }
 
 // 8.5.11: a row for each of `count` assignments from the one with the number `first` on, which holds that number.
@@ -72,9 +65,9 @@ fn complete(f: &[u32], t: u32, clock: u32, out: &mut [u32], n: usize) -> usize
     ensures complete_rows { CompleteRows f.now clock t out.old n out.new result }
     ensures few { result ≤ n + (3 + get_or f.now (648 + t) 0) }
 {
-    let a = changes::push(out, n, t, Column::STATE, Tag::STATE, State::COMPLETED);
-    let b = changes::push(out, a, t, Column::COMPLETED_TIME, Tag::TIME, clock);
-    let c = changes::push(out, b, t, Column::START_AT, Tag::UNKNOWN, 0);
+    let a = changes::push(out, n, Row::state(t, State::COMPLETED));
+    let b = changes::push(out, a, Row::time(t, Column::COMPLETED_TIME, clock));
+    let c = changes::push(out, b, Row::unknown(t, Column::START_AT));
     let i = t as usize;
     assigns(
         f,
