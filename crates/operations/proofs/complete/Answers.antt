@@ -5,4 +5,4 @@ use Rattle.operations.proofs.complete.Goals as goal
 
 pub returns-clause-complete_rows : goal.returns-clause-complete_rows
 returns-clause-complete_rows c =
-    complete_rows _ _ _ _ _ _ _ _ _ _ _ _ _ (pushes_row c.state.ensures c.push-a.ensures.pushes) (pushes_row c.time.ensures c.push-b.ensures.pushes) (pushes_row c.unknown.ensures c.push-c.ensures.pushes) c.cell.ensures c.cell-2.ensures c.assigns.ensures.assign_rows
+    complete_rows _ _ _ _ _ _ _ _ _ _ _ _ _ (pushes_row c.state.ensures c.push.ensures.pushes) (pushes_row c.time.ensures c.push-2.ensures.pushes) (pushes_row c.unknown.ensures c.push-3.ensures.pushes) c.cell.ensures c.cell-2.ensures c.assigns.ensures.assign_rows

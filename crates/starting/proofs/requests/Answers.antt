@@ -1,12 +1,13 @@
 -- `requests`: the row of one source more, and those of all.
-use Rattle.std.proofs.Common.{arith}
+use Rattle.std.proofs.Common.{arith, ◌∙◌}
 use Rattle.starting.specs.StartRows.{each_more, each_all, requests_more}
 use Rattle.starting.proofs.requests.Goals as goal
 
 pub loop-i-preserved : goal.loop-i-preserved
 loop-i-preserved c = record {
   few = omega arith;
-  rows = each_more _ _ _ _ _ _ _ _ _ _ _ (omega arith) c.cell-in-loop-i.ensures c.loop-i.invariant.rows c.request-m.ensures.request_row;
+  rows = each_more _ _ _ _ _ _ _ _ _ _ _ (omega arith) c.cell-in-loop-i.ensures c.loop-i.invariant.rows c.request.ensures.request_row;
+  same = c.request.ensures.same ∙ c.loop-i.invariant.same;
 }
 
 pub returns-clause-request_rows : goal.returns-clause-request_rows
