@@ -1,6 +1,8 @@
 -- One row asked for, as the code writes it: behind the others, or not again if it stands there. By the four cells.
-use Rattle.std.specs.Prelude.{ℕ, ◌+◌, ◌*◌, ◌<◌, ◌≤◌, ◌≡◌, refl, Bool, true, false, List, get_or, set, length}
+use Rattle.std.specs.Prelude.{ℕ, ◌+◌, ◌*◌, ◌<◌, ◌≤◌, ◌≡◌, refl, Bool, true, false, List, get_or, set, length, MatchBool}
 use Rattle.std.proofs.Common.{arith, sym, subst, ◌∙◌, length-set, get_or-set_same, get_or-set_other}
+use Rattle.std.specs.List.{range_with_len, AllWithin, HoldsAt}
+use Rattle.std.proofs.lemmas.List.FromFn.{length-range_with_len, get_or-range_with_len}
 use Rattle.std.proofs.Math.Decide.{dec_lt}
 use Rattle.std.proofs.Math.Option.{some}
 use Rattle.paper_rows.specs.Table.{Component, Property, RowValue}
@@ -120,6 +122,21 @@ none_more o a b k x i {t} is h none j l s = go (dec_lt j i)
 
 pub found_here : (o : List ℕ) (n a b k x i : ℕ) {t : Bool} → t ≡ true → IsRow o i a b k x t → i < n → Found o n a b k x true
 found_here o n a b k x i {t} is h l = (i, l, subst (IsRow o i a b k x) is h)
+
+-- what `any` says of the rows that have room: their numbers are those below m
+pub found_any : (o : List ℕ) (n m a b k x : ℕ) (r : Bool) → m ≤ n → (4 * n ≤ length o → m ≡ n)
+    → MatchBool r ((i : ℕ) × (i < length (range_with_len 0 m)) × HoldsAt (λ i. Stands o i a b k x) (range_with_len 0 m) i) (AllWithin (λ i. ¬ Stands o i a b k x) (range_with_len 0 m) 0 (length (range_with_len 0 m)))
+    → Found o n a b k x r
+found_any o n m a b k x true l room h =
+    let e = length-range_with_len 0 m in
+    let i : h.0 < m = let z = h.1 in omega arith in
+    let w : get_or (range_with_len 0 m) h.0 0 ≡ h.0 = let y = get_or-range_with_len 0 m h.0 0 i in omega arith in
+    (h.0, omega arith, subst (λ (y : ℕ). Stands o y a b k x) w (h.2 0))
+found_any o n m a b k x false l room h = λ z i y s.
+    let e = length-range_with_len 0 m in
+    let u : i < m = let v = room z in omega arith in
+    let w : get_or (range_with_len 0 m) i 0 ≡ i = let v = get_or-range_with_len 0 m i 0 u in omega arith in
+    h i 0 (omega arith) (omega arith) (subst (λ (t : ℕ). Stands o t a b k x) (sym w) s)
 
 stands_says : {o : List ℕ} {i a b k x : ℕ} {c : Component} {p : Property} {r : RowValue} → Stands o i a b k x → a ≡ component_code c → Column p b → Plain (some r) → k ≡ row_tag r → x ≡ row_number r
     → Says o i c p r

@@ -1,11 +1,105 @@
-// The cells of a row of the Changes table by name: docs/TABLES.md.
+// A row of the Changes table, and its cells by name: docs/TABLES.md.
+ghost use Rattle.std.specs.Prelude.{◌≡◌, ◌+◌, ◌*◌, ◌≤◌, cond, get_or, length};
+ghost use Rattle.changes.specs.Made.{row};
+
 use limits::{DataItems, Tasks};
 use state::{Property, Requested, Values};
 
-#[derive(Drop)]
-pub struct Row {}
+// The numbers of the component, the property, the tag and the new value.
+#[derive(Clone, Copy, PartialEq, Eq)]
+pub struct Row {
+    pub component: u32,
+    pub property: u32,
+    pub tag: u32,
+    pub number: u32,
+}
 
 impl Row {
+    // The task is in this state.
+    pub fn state(component: u32, state: u32) -> Row
+        ensures { result ≡ row component 8 5 state }
+    {
+        Row {
+            component,
+            property: Column::STATE,
+            tag: Tag::STATE,
+            number: state,
+        }
+    }
+
+    pub fn unknown(component: u32, property: u32) -> Row
+        ensures { result ≡ row component property 1 0 }
+    {
+        Row {
+            component,
+            property,
+            tag: Tag::UNKNOWN,
+            number: 0,
+        }
+    }
+
+    pub fn truth(component: u32, property: u32, is: bool) -> Row
+        ensures { result ≡ row component property 2 (cond is 1 0) }
+    {
+        Row {
+            component,
+            property,
+            tag: Tag::TRUTH,
+            number: u32::from(is),
+        }
+    }
+
+    pub fn count(component: u32, property: u32, number: u32) -> Row
+        ensures { result ≡ row component property 3 number }
+    {
+        Row {
+            component,
+            property,
+            tag: Tag::COUNT,
+            number,
+        }
+    }
+
+    pub fn time(component: u32, property: u32, time: u32) -> Row
+        ensures { result ≡ row component property 4 time }
+    {
+        Row {
+            component,
+            property,
+            tag: Tag::TIME,
+            number: time,
+        }
+    }
+
+    // The value of the item is that of the assignment with this number.
+    pub fn assigned(component: u32, assignment: u32) -> Row
+        ensures { result ≡ row component 776 4 assignment }
+    {
+        Row {
+            component,
+            property: Column::VALUE,
+            tag: Tag::ASSIGNED,
+            number: assignment,
+        }
+    }
+
+    // The row `i` of the table.
+    pub fn at(o: &[u32], i: usize) -> Row
+        requires { 4 * i + 4 ≤ length o.now }
+        ensures component { result.component ≡ get_or o.now (4 * i) 0 }
+        ensures property { result.property ≡ get_or o.now (4 * i + 1) 0 }
+        ensures tag { result.tag ≡ get_or o.now (4 * i + 2) 0 }
+        ensures number { result.number ≡ get_or o.now (4 * i + 3) 0 }
+    {
+        let b = Row::CELLS * i;
+        Row {
+            component: o[b],
+            property: o[b + Row::PROPERTY],
+            tag: o[b + Row::TAG],
+            number: o[b + Row::NUMBER],
+        }
+    }
+
     // the cells of a row
     pub const CELLS: usize = 4;
 

@@ -1,12 +1,10 @@
 -- The Changes table after the review of all tasks: exactly the rows that are asked for, none of them twice, and never more than 576. By the tasks passed.
-use Rattle.std.specs.Prelude.{ℕ, ◌+◌, ◌*◌, ◌<◌, ◌≤◌, ◌≡◌, refl, Bool, ◌↔◌, List, get_or}
-use Rattle.std.proofs.Common.{arith, sym, ap, subst, ◌∙◌}
+use Rattle.std.specs.Prelude.{ℕ, ◌+◌, ◌*◌, ◌<◌, ◌≤◌, ◌≡◌, refl, Bool, List, get_or}
+use Rattle.std.proofs.Common.{arith, subst}
 use Rattle.std.proofs.Math.Decide.{dec_lt}
 use Rattle.paper_rows.specs.Table.{task, data_item, precondition, wait_condition, value, requested, Component, ◌№◌, Property, RowValue, time_is, Table}
-use Rattle.paper_engine.specs.Conditions.{StartConditions, InitialiseConditions, TerminationConditions, DiscardConditions, CompleteConditions}
 use Rattle.paper_engine.specs.Operations.{Initialise, initialise_1, initialise_2, initialise_3, initialise_4, initialise_5, initialise_9a, initialise_source, Start, start_1, start_2, start_3, start_4, start_8, start_9, start_12, Discard, discard_1, discard_3}
 use Rattle.state.specs.Layout.{Rows}
-use Rattle.waits.specs.Booleans.{Tests}
 use Rattle.waits.specs.Twins.{marked, first_at, count_at_fn}
 use Rattle.waits.specs.Worked.{Worked, Allowed, Marks}
 use Rattle.discards.specs.DiscardLaws.{Ends}

@@ -4,7 +4,7 @@
 ghost use Rattle.std.specs.Prelude.{◌≡◌, ◌≤◌, get_or};
 ghost use Rattle.review.specs.Changes.{EachRows, Few, Reviews};
 
-use changes::Row;
+use changes::{Row, Rows};
 use limits::{Marks, WaitTable};
 use state::Plan;
 
@@ -30,10 +30,13 @@ fn each(
     ensures each_rows { EachRows s.now f.now clock initialises starts discards completes out.old out.new result }
     ensures few { Few f.now result }
 {
-    let mut m: usize = 0;
+    let mut rows = Rows {
+        cells: out,
+        count: 0,
+    };
     for t in 0..tasks(f) {
         let i = t as usize;
-        m = operations::review_one(
+        operations::review_one(
             s,
             f,
             clock,
@@ -42,11 +45,10 @@ fn each(
             starts[i],
             discards[i],
             completes[i],
-            out,
-            m,
+            &mut rows,
         );
     }
-    m
+    rows.count
 }
 
 // The rows that the review asks for, and how many. `pre` and `wait` mark the tasks whose precondition and wait_condition, if there, are true,

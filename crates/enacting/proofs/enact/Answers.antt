@@ -7,7 +7,7 @@ pub loop-i-init : goal.loop-i-init
 loop-i-init c = far_none _ _ _
 
 pub loop-i-preserved : goal.loop-i-preserved
-loop-i-preserved c = far_more _ _ _ _ _ _ (omega arith) c.at.ensures c.at-in-loop-i.ensures c.at-in-loop-i-2.ensures c.at-in-loop-i-3.ensures c.write.ensures c.loop-i.invariant
+loop-i-preserved c = far_more _ _ _ _ _ _ (omega arith) c.at.ensures.component c.at.ensures.property c.at.ensures.tag c.at.ensures.number c.write.ensures c.loop-i.invariant
 
 pub returns : goal.returns
 returns c = far_all _ _ _ _ _ _ c.bounded-i-end.ensures.2 (omega arith) c.loop-i.invariant

@@ -6,6 +6,6 @@ use Rattle.enacting.proofs.write.Goals as goal
 
 pub returns-then-contains : goal.returns-then-contains
 returns-then-contains c =
-    let l : 65536 ≤ c.args.a = grind (arith, nat_tests) in
-    let h : c.args.a < 65600 = grind (arith, nat_tests) in
-    writes_item _ _ _ _ _ _ (λ z. omega arith) c.if-b-eq-REQUESTED.true l h refl c.put-then-contains.ensures
+    let l : 65536 ≤ c.args.row.component = grind (arith, nat_tests) in
+    let h : c.args.row.component < 65600 = grind (arith, nat_tests) in
+    writes_item _ _ _ _ _ _ (λ z. omega arith) c.if-row-eq-REQUESTED.true l h refl c.put-then-contains.ensures

@@ -1,7 +1,7 @@
 -- `push`: the row behind the others, or no room for it.
 use Rattle.std.proofs.Common.{refl, arith}
 use Rattle.changes.specs.Push.{pushes, pushes_not}
-use Rattle.changes.proofs.push.Goals as goal
+use Rattle.changes.proofs.Rows.push.Goals as goal
 
 pub returns-then-n-room-clause-pushes : goal.returns-then-n-room-clause-pushes
 returns-then-n-room-clause-pushes c = pushes _ _ _ _ _ _ (omega arith) _ refl
