@@ -3,8 +3,8 @@ use Rattle.std.proofs.Common.{◌-◌, length}
 use Rattle.script.specs.LexemesLaws.{Reading}
 use Rattle.script.proofs.lexemes.text_at.Given as goal
 
-abbrev pub invariant-loop-p : goal.invariant-loop-p
-invariant-loop-p l = Reading l.s l.at l.initial.bytes l.from l.bytes l.n l.p
+abbrev pub invariant-loop-b : goal.invariant-loop-b
+invariant-loop-b l = Reading l.s l.at l.initial.bytes l.from l.bytes l.n l.p
 
-abbrev pub decreases-loop-p : goal.decreases-loop-p
-decreases-loop-p l = length l.s - l.p
+abbrev pub decreases-loop-b : goal.decreases-loop-b
+decreases-loop-b l = length l.s - l.p
