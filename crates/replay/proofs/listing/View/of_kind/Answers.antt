@@ -2,7 +2,7 @@
 use Rattle.std.proofs.Common.{rules, arith, inl, inr}
 use Rattle.replay.specs.Rows.{none}
 use Rattle.replay.specs.RowsLaws.{one_more, is_absent, is_present}
-use Rattle.replay.proofs.listing.of_kind.Goals as goal
+use Rattle.replay.proofs.listing.View.of_kind.Goals as goal
 
 pub loop-number-init : goal.loop-number-init
 loop-number-init c = none

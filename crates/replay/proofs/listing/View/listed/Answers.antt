@@ -5,7 +5,7 @@ use Rattle.paper_expressions.specs.Bytes.{bytes}
 use Rattle.digits.specs.AppendsLaws.{append_then, appends_as}
 use Rattle.transcript.specs.Answers.{counted_written}
 use Rattle.replay.specs.RowsLaws.{from_room}
-use Rattle.replay.proofs.listing.listed.Goals as goal
+use Rattle.replay.proofs.listing.View.listed.Goals as goal
 
 pub returns : goal.returns
 returns c =

@@ -3,7 +3,7 @@ use Rattle.std.proofs.Common.{ℕ, sym, ap, ◌∙◌}
 use Rattle.digits.specs.AppendsLaws.{appends_as}
 use Rattle.transcript.specs.Answers.{refused_lined}
 use Rattle.replay.specs.Rows.{refused, listed}
-use Rattle.replay.proofs.listing.all.Goals as goal
+use Rattle.replay.proofs.listing.View.all.Goals as goal
 
 pub returns-then-is_refused : goal.returns-then-is_refused
 returns-then-is_refused c =

@@ -2,7 +2,7 @@
 use Rattle.std.proofs.Common.{arith, ◌≡◌}
 use Rattle.replay.specs.Rows.{none}
 use Rattle.replay.specs.RowsLaws.{one_more, so_many}
-use Rattle.replay.proofs.listing.component.Goals as goal
+use Rattle.replay.proofs.listing.View.component.Goals as goal
 
 pub loop-property-init : goal.loop-property-init
 loop-property-init c = none

@@ -2,7 +2,7 @@
 use Rattle.std.proofs.Common.{arith, ◌≡◌}
 use Rattle.replay.specs.Rows.{none}
 use Rattle.replay.specs.RowsLaws.{one_more, so_many}
-use Rattle.replay.proofs.listing.of_kinds.Goals as goal
+use Rattle.replay.proofs.listing.View.of_kinds.Goals as goal
 
 pub loop-kind-init : goal.loop-kind-init
 loop-kind-init c = none
