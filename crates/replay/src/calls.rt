@@ -1,15 +1,15 @@
 // The calls of a script, each answered by the public call of its name.
 ghost use Rattle.digits.specs.Appends.{Appends};
 ghost use Rattle.replay.specs.Rows.{buffer};
-ghost use Rattle.replay.specs.Calls.{tables, ran_written, LoadAnswered, RunsLent, TriggerAnswered, RowAnswered, CallAnswered, LineAnswered};
+ghost use Rattle.replay.specs.Calls.{tables, ran_written, LoadAnswered, RunsLent, TriggerAnswered, CallAnswered, LineAnswered};
 
-use crate::listing::all;
-use digits::{byte, word};
+use crate::listing::View;
+use digits::word;
 use limits::{Rows, WaitTable};
 use runs::Ran;
 use script::{Call, Given, Line};
 use transcript::buffer::room;
-use transcript::{counted, refused_line, replied, shown};
+use transcript::{counted, refused_line, replied};
 
 // The most rows that a script lends.
 const ROWS_LENT: u64 = 8_192;
@@ -94,25 +94,6 @@ fn trigger(
     replied(triggering::trigger(texts, plan, state, &bytes[..n]), out, o)
 }
 
-// The line of a row's value.
-fn row(
-    texts: &[u8],
-    plan: &[u32],
-    waits: WaitTable,
-    state: &[u32],
-    kind: u64,
-    number: u64,
-    property: u64,
-    out: &mut [u8],
-    o: usize,
-) -> usize
-    ensures { RowAnswered kind number property texts.now plan.now waits state.now (buffer out.old o) (buffer out.new result) }
-{
-    let row = row_read::read(plan, waits, state, kind, number, property);
-    let p = shown(texts, row, out, o);
-    byte(b'\n', out, p)
-}
-
 // The answer to the call of a line.
 fn answer(
     l: Line,
@@ -141,10 +122,20 @@ fn answer(
             o,
         ),
         Call::Trigger(n) => trigger(texts, plan, state, bytes, n, out, o),
-        Call::Row(kind, number, property) => row(
-            texts, plan, *waits, state, kind, number, property, out, o,
-        ),
-        Call::Rows => all(texts, plan, *waits, state, out, o),
+        Call::Row(kind, number, property) => View {
+            texts,
+            plan,
+            waits,
+            state,
+        }
+        .value(kind, number, property, out, o),
+        Call::Rows => View {
+            texts,
+            plan,
+            waits,
+            state,
+        }
+        .all(out, o),
     }
 }
 

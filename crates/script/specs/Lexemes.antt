@@ -1,5 +1,5 @@
 -- The words, numbers and texts of a script: docs/REPLAY.md. What stands at a place, and the place behind it. Definitions only.
-use Rattle.std.specs.Prelude.{Bool, true, false, cond, List, [], ◌∷◌, ℕ, suc, ◌+◌, ◌-◌, ◌*◌, eqb, ltb, leb, get_or, set, length, drop, ◌≡◌}
+use Rattle.std.specs.Prelude.{Bool, true, false, cond, Option, Some, None, List, [], ◌∷◌, ℕ, suc, ◌+◌, ◌-◌, ◌*◌, eqb, ltb, leb, get_or, set, length, drop, ◌≡◌}
 use Rattle.script.specs.declared.lexemes.Number.{Number}
 use Rattle.script.specs.declared.lexemes.Text.{Text}
 
@@ -58,31 +58,32 @@ number_at s at limit last = limited s limit last (digits_at s at)
 
 -- ---- texts: two hexadecimal digits for each byte, 0 to 9, a to f, A to F
 
--- 16 is no digit, 256 no byte
-abbrev pub hex_value : ℕ → ℕ
+abbrev pub hex_value : ℕ → Option ℕ
 hex_value b =
-    cond (ltb b 48) 16
-    (cond (ltb b 58) (b - 48)
-    (cond (ltb b 65) 16
-    (cond (ltb b 71) (b - 55)
-    (cond (ltb b 97) 16
-    (cond (ltb b 103) (b - 87) 16)))))
+    cond (ltb b 48) None
+    (cond (ltb b 58) (Some (b - 48))
+    (cond (ltb b 65) None
+    (cond (ltb b 71) (Some (b - 55))
+    (cond (ltb b 97) None
+    (cond (ltb b 103) (Some (b - 87)) None)))))
 
-abbrev pub pair_of : ℕ → ℕ → ℕ
-pair_of high low = cond (ltb 15 high) 256 (cond (ltb 15 low) 256 (high * 16 + low))
+abbrev pub pair_of : Option ℕ → Option ℕ → Option ℕ
+pair_of None low = None
+pair_of (Some high) None = None
+pair_of (Some high) (Some low) = Some (high * 16 + low)
 
-abbrev pub pair_value : ℕ → ℕ → ℕ
+abbrev pub pair_value : ℕ → ℕ → Option ℕ
 pair_value a b = pair_of (hex_value a) (hex_value b)
 
-abbrev pub further : Bool → ℕ → List ℕ → List ℕ
-further true b w = []
-further false b w = b ∷ w
+abbrev pub further : Option ℕ → List ℕ → List ℕ
+further None w = []
+further (Some b) w = b ∷ w
 
 -- the bytes that the pairs at the front stand for
 unfoldable pub text_bytes : List ℕ → List ℕ
 text_bytes [] = []
 text_bytes (a ∷ []) = []
-text_bytes (a ∷ b ∷ w) = further (ltb 255 (pair_value a b)) (pair_value a b) (text_bytes w)
+text_bytes (a ∷ b ∷ w) = further (pair_value a b) (text_bytes w)
 
 -- 63 of them are kept: more than any text within the limits has
 abbrev pub one_longer : ℕ → ℕ

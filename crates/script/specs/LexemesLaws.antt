@@ -1,5 +1,5 @@
 -- The loops of the code, turn by turn: what stands at a place, by its first byte.
-use Rattle.std.specs.Prelude.{◌≡◌, Bool, true, false, cond, not, eqb, ltb, get_or, set, drop}
+use Rattle.std.specs.Prelude.{◌≡◌, Bool, true, false, cond, Option, Some, None, not, eqb, ltb, get_or, set, drop}
 use Rattle.std.proofs.Math.Path.{refl, sym, ap}
 use Rattle.std.proofs.Common.{subst, ◌∙◌, add-one, drop_of_length-le, length-drop, lt-ltb, le-ltb, eq-eqb, ne_eqb}
 use mathlib.Core.List.{List, [], ◌∷◌}
@@ -89,8 +89,8 @@ module _ (s : List ℕ) (limit last : ℕ) {d e : Number} (is : d ≡ e) where
 
 -- ---- texts
 
-pub pair_is : {h l r : ℕ} (a b : ℕ) → h ≡ hex_value a → l ≡ hex_value b → r ≡ pair_of h l → r ≡ pair_value a b
-pair_is {h} {l} a b e f g = g ∙ ap (λ (x : ℕ). pair_of x l) e ∙ ap (λ (x : ℕ). pair_of (hex_value a) x) f
+pub pair_is : {h l r : Option ℕ} (a b : ℕ) → h ≡ hex_value a → l ≡ hex_value b → r ≡ pair_of h l → r ≡ pair_value a b
+pair_is {h} {l} a b e f g = g ∙ ap (λ (x : Option ℕ). pair_of x l) e ∙ ap (λ (x : Option ℕ). pair_of (hex_value a) x) f
 
 short : (w : List ℕ) → length w < 2 → text_bytes w ≡ []
 unfolding text_bytes
@@ -102,22 +102,22 @@ module _ (s : List ℕ) (p : ℕ) where
   pub text_short : length s < p + 2 → text_bytes (drop p s) ≡ []
   text_short h = let n = length-drop p s in short (drop p s) (omega arith)
 
-  module _ (more : p + 2 ≤ length s) {b : ℕ} (e : b ≡ pair_value (get_or s p 0) (get_or s (p + 1) 0)) where
+  module _ (more : p + 2 ≤ length s) where
     two : drop p s ≡ get_or s p 0 ∷ get_or s (p + 1) 0 ∷ drop (p + 2) s
     two =
         let i : p + 1 ≡ suc p = omega arith in
         let j : p + 2 ≡ suc (suc p) = omega arith in
         rw (i, j) (drop-cons s p 0 (omega arith) ∙ ap (λ (w : List ℕ). get_or s p 0 ∷ w) (drop-cons s (suc p) 0 (omega arith)))
 
-    next : text_bytes (drop p s) ≡ further (ltb 255 b) b (text_bytes (drop (p + 2) s))
+    next : {b : Option ℕ} → b ≡ pair_value (get_or s p 0) (get_or s (p + 1) 0) → text_bytes (drop p s) ≡ further b (text_bytes (drop (p + 2) s))
     unfolding text_bytes
-    next = ap text_bytes two ∙ ap (λ (x : ℕ). further (ltb 255 x) x (text_bytes (drop (p + 2) s))) (sym e)
+    next e = ap text_bytes two ∙ ap (λ (x : Option ℕ). further x (text_bytes (drop (p + 2) s))) (sym e)
 
-    pub text_end : 255 < b → text_bytes (drop p s) ≡ []
-    text_end h = next ∙ simp (lt-ltb 255 b h)
+    pub text_end : None ≡ pair_value (get_or s p 0) (get_or s (p + 1) 0) → text_bytes (drop p s) ≡ []
+    text_end e = next e
 
-    pub text_more : b ≤ 255 → text_bytes (drop p s) ≡ b ∷ text_bytes (drop (p + 2) s)
-    text_more h = next ∙ simp (le-ltb 255 b h)
+    pub text_more : {n : ℕ} → Some n ≡ pair_value (get_or s p 0) (get_or s (p + 1) 0) → text_bytes (drop p s) ≡ n ∷ text_bytes (drop (p + 2) s)
+    text_more e = next e
 
 -- how far reading a text is: what is left of it, and what comes of that
 pub record Reading (s : List ℕ) (at : ℕ) (cells : List ℕ) (from : ℕ) (now : List ℕ) (n p : ℕ) : Type 0 where

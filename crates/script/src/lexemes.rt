@@ -1,10 +1,11 @@
 // Words, numbers and hexadecimal texts.
-ghost use Rattle.std.specs.Prelude.{◌≡◌, ◌+◌, ◌*◌, set, length, drop};
+ghost use Rattle.std.specs.Prelude.{◌≡◌, ◌+◌, ◌*◌, ◌<◌, MatchOption, set, length, drop};
 ghost use Rattle.script.specs.Lexemes as lexemes;
 ghost use Rattle.script.specs.Lexemes.{TextRead};
 
 use parts::byte;
 
+// stays: promise of `line_of` and `ValuePut`, which say what a call and its cells are behind a place that is not there, too
 pub const NOWHERE: usize = usize::MAX;
 
 // The greatest number of any script, 2 to the 63rd less one; and one beyond it, for all that are.
@@ -105,29 +106,26 @@ pub fn number_at(s: &[u8], at: usize, limit: u64, last: u8) -> Number
     }
 }
 
-// What a hexadecimal digit stands for; 16 is none.
-fn hexadecimal(b: u8) -> u8
-    ensures { result ≡ lexemes.hex_value b }
+// What a hexadecimal digit stands for.
+fn hexadecimal(b: u8) -> Option<u8>
+    ensures is { result ≡ lexemes.hex_value b }
+    ensures small { MatchOption result (Unit {0}) (λ d. d < 16) }
 {
     match b {
-        b'0'..=b'9' => b - b'0',
-        b'A'..=b'F' => b - b'A' + 10,
-        b'a'..=b'f' => b - b'a' + 10,
-        _ => 16,
+        b'0'..=b'9' => Some(b - b'0'),
+        b'A'..=b'F' => Some(b - b'A' + 10),
+        b'a'..=b'f' => Some(b - b'a' + 10),
+        _ => None,
     }
 }
 
-// A byte in two digits; 256 is none.
-fn pair(a: u8, b: u8) -> u16
+// A byte in two digits.
+fn pair(a: u8, b: u8) -> Option<u8>
     ensures { result ≡ lexemes.pair_value a b }
 {
-    let high = u16::from(hexadecimal(a));
-    let low = u16::from(hexadecimal(b));
-    if high > 15 || low > 15 {
-        256
-    } else {
-        high * 16 + low
-    }
+    let high = hexadecimal(a)?;
+    let low = hexadecimal(b)?;
+    Some(high * 16 + low)
 }
 
 // The byte `i` of the bytes from `from` on.
@@ -163,15 +161,11 @@ pub fn text_at(s: &[u8], at: usize, bytes: &mut [u8], from: usize) -> Text
 {
     let mut n = 0usize;
     let mut p = at;
-    while p < s.len() {
-        if s.len() - p < 2 {
+    while s.len().saturating_sub(p) >= 2 {
+        let Some(b) = pair(s[p], s[p + 1]) else {
             return Text { len: n, next: p };
-        }
-        let b = pair(s[p], s[p + 1]);
-        if 255 < b {
-            return Text { len: n, next: p };
-        }
-        put(bytes, from, n, b as u8);
+        };
+        put(bytes, from, n, b);
         n = longer(n);
         p += 2;
     }

@@ -40,6 +40,7 @@ struct Element {
 }
 
 // The tags of elements.
+// stays: C interface: as the call that adds a value is lent them
 impl Element {
     const UNKNOWN: u32 = 0;
 

@@ -22,7 +22,7 @@ pub returns-in-Trigger : goal.returns-in-Trigger
 returns-in-Trigger c = as_call c.in-Trigger.is (Calls.trigger c.trigger.ensures)
 
 pub returns-in-Row : goal.returns-in-Row
-returns-in-Row c = as_call c.in-Row.is (Calls.row c.row.ensures)
+returns-in-Row c = as_call c.in-Row.is (Calls.row c.value.ensures)
 
 pub returns-in-Rows : goal.returns-in-Rows
 returns-in-Rows c = as_call c.in-Rows.is (Calls.rows c.all.ensures)
