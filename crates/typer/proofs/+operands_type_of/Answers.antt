@@ -10,13 +10,11 @@ operands-loop-init t c =
     let a = c.args in
     let e : a.n ≡ a.n - 0 = omega arith in
     subst (λ (k : ℕ). Going (table a.cells.now a.bytes.now) a.names.now a.types.now a.task a.p a.n a.depth k a.p c.start-s.result) e
-    (going_first (table a.cells.now a.bytes.now) a.names.now a.types.now a.task a.p a.n a.depth c.start-s.result c.start-s.ensures)
+    (going_first _ _ _ _ _ _ _ _ c.start-s.ensures)
 
 pub operands-returns-then-t-eq0 : goal.operands-returns-then-t-eq0
 operands-returns-then-t-eq0 t c =
-    let a = c.args in
-    let l = c.loop in
-    going_stop (table a.cells.now a.bytes.now) a.names.now a.types.now a.task a.p a.n a.depth (a.n - l.counter) l.q c.type_of-t.result l.s (omega arith) c.if-t-eq0.true l.invariant c.type_of-t.ensures
+    going_stop _ _ _ _ _ _ _ (c.args.n - c.loop.counter) _ _ _ (omega arith) c.if-t-eq0.true c.loop.invariant c.type_of-t.ensures
 
 pub operands-loop-preserved : goal.operands-loop-preserved
 operands-loop-preserved t c =
@@ -24,23 +22,18 @@ operands-loop-preserved t c =
     let l = c.loop in
     let e : a.n - l.counter - 1 ≡ a.n - (l.counter + 1) = omega arith in
     subst (λ (k : ℕ). Going (table a.cells.now a.bytes.now) a.names.now a.types.now a.task a.p a.n a.depth k c.back-q.result c.push-s.result) e
-    (going_on (table a.cells.now a.bytes.now) a.names.now a.types.now a.task a.p a.n a.depth (a.n - l.counter) l.q c.type_of-t.result c.back-q.result l.s c.push-s.result (omega arith) c.if-t-eq0.false l.invariant c.type_of-t.ensures c.push-s.ensures c.back-q.ensures)
+    (going_on _ _ _ _ _ _ _ _ _ _ _ _ _ (omega arith) c.if-t-eq0.false l.invariant c.type_of-t.ensures c.push-s.ensures c.back-q.ensures)
 
 pub operands-returns : goal.operands-returns
-operands-returns t c =
-    let a = c.args in
-    let l = c.loop in
-    going_done (table a.cells.now a.bytes.now) a.names.now a.types.now a.task a.p a.n a.depth (a.n - l.counter) l.q l.s (omega arith) l.invariant
+operands-returns t c = going_done _ _ _ _ _ _ _ (c.args.n - c.loop.counter) _ _ (omega arith) c.loop.invariant
 
 pub type_of-returns-then-end-eq0 : goal.type_of-returns-then-end-eq0
 type_of-returns-then-end-eq0 t c =
-    let a = c.args in
     elim c.then-end-eq0.branch [
-      | type_of-then-end-eq0-via-then-end-eq0 w ↦ nothing_ends (table a.cells.now a.bytes.now) a.names.now a.types.now a.task a.depth a.end 0 w.if-end-eq0.true
-      | type_of-then-end-eq0-via-else-end-eq0+then-depth-eq0 w ↦ too_deep (table a.cells.now a.bytes.now) a.names.now a.types.now a.task a.depth a.end 0 w.if-depth-eq0.true
+      | type_of-then-end-eq0-via-then-end-eq0 w ↦ nothing_ends _ _ _ _ _ _ _ w.if-end-eq0.true
+      | type_of-then-end-eq0-via-else-end-eq0+then-depth-eq0 w ↦ too_deep _ _ _ _ _ _ _ w.if-depth-eq0.true
     ]
 
 pub type_of-returns : goal.type_of-returns
 type_of-returns t c =
-    let a = c.args in
-    by_operands (table a.cells.now a.bytes.now) a.names.now a.types.now a.task a.depth a.end c.code-kind.result c.count-n.result c.compound.result c.operands-s.result c.code-kind.ensures (λ h. absurd (omega (arith, h, c.if-kind-lt-LIST.false))) c.count-n.ensures c.operands-s.ensures c.compound.ensures
+    by_operands _ _ _ _ _ _ _ _ _ _ c.code-kind.ensures (λ h. absurd (omega (arith, h, c.if-kind-lt-LIST.false))) c.count-n.ensures c.operands-s.ensures c.compound.ensures
