@@ -1,5 +1,5 @@
 // The columns of a sheet, by the names in its first line. What is wrong with one is told on standard error.
-ghost use Rattle.std.specs.Prelude.{◌≡◌, ◌<◌, set, MatchOption};
+ghost use Rattle.std.specs.Prelude.{◌≡◌, ◌+◌, ◌<◌, min, set, MatchOption};
 ghost use Rattle.season_answer.specs.Columns as places;
 
 use crate::found::{Column, stands_for};
@@ -8,7 +8,9 @@ use blocks::{cell, put_cell};
 use separated::field;
 
 // Columns are counted from 1; what stands behind the last counts to it.
-pub fn counted(i: usize) -> u64 {
+pub fn counted(i: usize) -> u64
+    ensures { result ≡ min i 127 + 1 }
+{
     i.min(Column::LIMIT - 1) as u64 + 1
 }
 
