@@ -1,13 +1,12 @@
 // Every row, by kind, component and property; then the time and the Exception flag.
 ghost use Rattle.replay.specs.Rows.{buffer, Writes, with_room, Series, RowListed, ComponentRows, IsThere, KindListed, AllListed, RowsAnswered};
 ghost use Rattle.replay.specs.Calls.{RowAnswered};
-ghost use Rattle.row_read.specs.Read.{ReadsRow};
 ghost use Rattle.transcript.specs.Answers.{row_lined};
 
 use crate::shown::{is_refused, is_row, refusal};
 use digits::{byte, word};
 use limits::{Sources, WaitTable};
-use row_read::{Kind, Properties};
+use row_read::{Kind, Properties, read};
 use row_shown::Row;
 use transcript::buffer::room;
 use transcript::{counted, refused_line, shown};
@@ -49,17 +48,11 @@ pub struct View<'a> {
 }
 
 impl<'a> View<'a> {
-    fn read(self, kind: u64, number: u64, property: u64) -> Row
-        ensures { ReadsRow kind number property self.entry.plan.now self.entry.waits.now self.entry.state.now result }
-    {
-        row_read::read(self.plan, *self.waits, self.state, kind, number, property)
-    }
-
     // The line of a row's value.
     pub fn value(self, kind: u64, number: u64, property: u64, out: &mut [u8], o: usize) -> usize
         ensures { RowAnswered kind number property self.entry.texts.now self.entry.plan.now self.entry.waits.now self.entry.state.now (buffer out.old o) (buffer out.new result) }
     {
-        let row = self.read(kind, number, property);
+        let row = read(self.plan, *self.waits, self.state, kind, number, property);
         let p = shown(self.texts, row, out, o);
         byte(b'\n', out, p)
     }
@@ -68,7 +61,7 @@ impl<'a> View<'a> {
     fn row(self, kind: u64, number: u64, property: u64, out: &mut [u8], o: usize) -> usize
         ensures { RowListed self.entry.texts.now self.entry.plan.now self.entry.waits.now self.entry.state.now kind number property (buffer out.old o) (buffer out.new result) }
     {
-        let row = self.read(kind, number, property);
+        let row = read(self.plan, *self.waits, self.state, kind, number, property);
         if is_row(row.shown) {
             row_line(self.texts, kind, number, property, row, out, o)
         } else {
@@ -91,7 +84,7 @@ impl<'a> View<'a> {
     fn is_there(self, kind: u64, number: u64) -> bool
         ensures { IsThere self.entry.plan.now self.entry.waits.now self.entry.state.now kind number result }
     {
-        is_row(self.read(kind, number, CLASS).shown)
+        is_row(read(self.plan, *self.waits, self.state, kind, number, CLASS).shown)
     }
 
     // The rows of the components of a kind. There are no more of any kind than there may be sources.
@@ -132,7 +125,7 @@ impl<'a> View<'a> {
     pub fn all(self, out: &mut [u8], o: usize) -> usize
         ensures { RowsAnswered self.entry.texts.now self.entry.plan.now self.entry.waits.now self.entry.state.now (buffer out.old o) (buffer out.new result) }
     {
-        let root = self.read(Kind::TASK, 0, CLASS);
+        let root = read(self.plan, *self.waits, self.state, Kind::TASK, 0, CLASS);
         if is_refused(root.shown) {
             refused_line(refusal(root.shown), 0, out, o)
         } else {
