@@ -1,6 +1,6 @@
 -- What the walk has to do: count what the rows of a guideline amount to, and, where there is room and no token is past a limit, write their encoding. Definitions only.
-use Rattle.std.specs.Prelude.{ℕ, ◌+◌, ◌*◌, ◌≤◌, ◌<◌, ◌≡◌, Bool, true, false, cond, ◌||◌, List, [], ◌∷◌, eqb, ltb, length, Option as Maybe, IfNone, IfSome}
-use Rattle.std.proofs.Math.Option.{Option}
+use Rattle.std.specs.Prelude.{ℕ, ◌+◌, ◌*◌, ◌≤◌, ◌<◌, ◌≡◌, Bool, true, false, cond, ◌||◌, List, [], ◌∷◌, eqb, ltb, length, Option as Maybe, None, Some, IfNone, IfSome}
+use Rattle.std.proofs.Math.Option.{Option, none, some}
 use Rattle.paper_guideline.specs.Limits.{guideline_limit, token_limit, part_limit}
 use Rattle.paper_tokens.specs.Tokens.{“plan”, “action”, “enquiry”, “data”, “=”, “source”}
 use Rattle.paper_tokens.specs.Lexical.{Token}
@@ -20,7 +20,7 @@ use Rattle.guideline_rows.specs.Encoded.{name_text, expression_text, row_text, t
 use Rattle.guideline_turns.specs.declared.Label.{Label}
 use Rattle.guideline_turns.specs.declared.Extent.{Extent}
 use Rattle.guideline_turns.specs.declared.Entry.{Entry}
-use Rattle.guideline_turns.specs.Made.{Named, NameAt, place_in, first_in, end_in, start_in, large_in, Alike, parts_behind, Sound, Told}
+use Rattle.guideline_turns.specs.Made.{Named, place_in, first_in, end_in, start_in, large_in, Alike, parts_behind, Sound, Told}
 use Rattle.guideline_walk.specs.declared.Totals.{Totals}
 use Rattle.guideline_walk.specs.declared.texts.Moved.{Moved}
 
@@ -139,8 +139,15 @@ pub record NameMoved (b d : List ℕ) (o : ℕ) (n : Option Name) (r : Moved) : 
   pub handle : r.handle ≡ name_handle o n
   pub bytes : Written b d o (name_text n)
 
+-- which name a row has: the token of its label alone says so, wherever the label says that it stands
+abbrev pub NamedBy : Source → Maybe Label → Option Name → Type 0
+NamedBy c None none = Unit {0}
+NamedBy c None (some n) = ⊥
+NamedBy c (Some l) none = ⊥
+NamedBy c (Some l) (some n) = Named c l.token n
+
 pub record MovesName (text places lengths b d : List ℕ) (l : Maybe Label) (o : ℕ) (r : Moved) : Type 0 where
-  pub done : (kinds : List ℕ) (n : Option Name) → Sound (source text kinds places lengths) → NameAt (source text kinds places lengths) l n → Fits b (o + length (name_text n)) → NameMoved b d o n r
+  pub done : (kinds : List ℕ) (n : Option Name) → Sound (source text kinds places lengths) → NamedBy (source text kinds places lengths) l n → Fits b (o + length (name_text n)) → NameMoved b d o n r
 
 -- the texts of the expression, if there is one, stand from o up to r, and its parts lead there
 pub record TextsMoved (k l b d : List ℕ) (u o r : ℕ) (e : Option Outermost) : Type 0 where

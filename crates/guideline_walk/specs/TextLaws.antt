@@ -32,7 +32,7 @@ use Rattle.guideline_turns.specs.declared.Entry.{Entry}
 use Rattle.guideline_turns.specs.Made.{Named, NameAt, place_in, first_in, end_in, start_in, Alike, Sound, Told}
 use Rattle.guideline_walk.specs.declared.Totals.{Totals}
 use Rattle.guideline_walk.specs.declared.texts.Moved.{Moved}
-use Rattle.guideline_walk.specs.Made.{low, eight, Puts, SpellsName, NameMoved, MovesName, TextsMoved, MovesTexts, RowLaid}
+use Rattle.guideline_walk.specs.Made.{low, eight, Puts, SpellsName, NameMoved, NamedBy, MovesName, TextsMoved, MovesTexts, RowLaid}
 
 -- ---- a name
 
@@ -58,7 +58,7 @@ module _ {text places lengths b : List ℕ} {o : ℕ} where
   pub no_name : MovesName text places lengths b b None o (record { handle = 0; behind = o })
   no_name = record { done = none_here }
     where
-      none_here : (kinds : List ℕ) (n : Option Name) → Sound (source text kinds places lengths) → NameAt (source text kinds places lengths) None n → Fits b (o + length (name_text n))
+      none_here : (kinds : List ℕ) (n : Option Name) → Sound (source text kinds places lengths) → NamedBy (source text kinds places lengths) None n → Fits b (o + length (name_text n))
           → NameMoved b b o n (record { handle = 0; behind = o })
       none_here kinds none sd h f = record { behind = omega arith; handle = refl; bytes = written_none b o }
       none_here kinds (some n) sd h f = absurd h
@@ -67,21 +67,21 @@ module _ {text places lengths b : List ℕ} {o : ℕ} where
     pub no_room : {q : Bool} {r : Moved} → q ≡ false → Rooms (length b) (o + s.n) q → MovesName text places lengths b b (Some v) o r
     no_room {q} {r} eq m = record { done = some_here }
       where
-        some_here : (kinds : List ℕ) (n : Option Name) → Sound (source text kinds places lengths) → NameAt (source text kinds places lengths) (Some v) n → Fits b (o + length (name_text n)) → NameMoved b b o n r
+        some_here : (kinds : List ℕ) (n : Option Name) → Sound (source text kinds places lengths) → NamedBy (source text kinds places lengths) (Some v) n → Fits b (o + length (name_text n)) → NameMoved b b o n r
         some_here kinds none sd h f = absurd h
         some_here kinds (some n) sd h f =
-            let e = ap length (says.named kinds n sd h.0) in
+            let e = ap length (says.named kinds n sd h) in
             let l = length_cells text s.at s.n in
             contra (sym eq ∙ m.true_if (let y = f.bytes in omega arith, let y = f.places in omega arith))
 
     pub name_moved : {d : List ℕ} {x : ℕ} → x ≡ handle o s.n → Written b d o (cells text s.at s.n) → MovesName text places lengths b d (Some v) o (record { handle = x; behind = o + s.n })
     name_moved {d} {x} ex w = record { done = some_here }
       where
-        some_here : (kinds : List ℕ) (n : Option Name) → Sound (source text kinds places lengths) → NameAt (source text kinds places lengths) (Some v) n → Fits b (o + length (name_text n))
+        some_here : (kinds : List ℕ) (n : Option Name) → Sound (source text kinds places lengths) → NamedBy (source text kinds places lengths) (Some v) n → Fits b (o + length (name_text n))
             → NameMoved b d o n (record { handle = x; behind = o + s.n })
         some_here kinds none sd h f = absurd h
         some_here kinds (some n) sd h f =
-            let q = says.named kinds n sd h.0 in
+            let q = says.named kinds n sd h in
             let e = ap length q in
             let l = length_cells text s.at s.n in
             record { behind = omega arith; handle = ex ∙ ap (handle o) (sym l ∙ e); bytes = subst (Written b d o) q w }
@@ -174,6 +174,13 @@ module _ {c : Source} {j k : List ℕ} {u : ℕ} {t : Entry} {row : Row} (told :
       let e8 = told.flag in
       cc
 
+-- the token alone
+named_by : (c : Source) (l : Maybe Label) (n : Option Name) → NameAt c l n → NamedBy c l n
+named_by c None none h = h
+named_by c None (some n) h = absurd h
+named_by c (Some v) none h = absurd h
+named_by c (Some v) (some n) h = h.0
+
 -- ---- the whole row
 
 pub row_laid : {text kinds places lengths j x y k l b a d : List ℕ} {u o n z : ℕ} {t : Entry} {row : Row} {m : Moved} {r : Totals} → Told (source text kinds places lengths) j k u t row
@@ -185,7 +192,7 @@ row_laid {text} {kinds} {places} {lengths} {j} {x} {y} {k} {l} {b} {a} {d} {u} {
     let al = length-append (name_text (name_of row)) (expression_text e) in
     let fb = ft.bytes in
     let fp = ft.places in
-    let nm = name.done kinds (name_of row) sd told.name (record { bytes = omega arith; places = omega arith }) in
+    let nm = name.done kinds (name_of row) sd (named_by (source text kinds places lengths) t.name (name_of row) told.name) (record { bytes = omega arith; places = omega arith }) in
     let nb = nm.behind in
     let nl = nm.bytes.long in
     let tm = texts.done u e told.alike told.first told.end (told.held sd few room) (omega arith) (record { bytes = omega arith; places = omega arith }) in
