@@ -1,5 +1,6 @@
 -- What is gathered of the types of operands, and that it has what rules 8 to 10 ask for. By the first three types.
 use Rattle.std.specs.Prelude.{◌≡◌, refl, true, List, [], ◌∷◌, Option, Some, None, ℕ, is_some}
+use Rattle.std.proofs.Common.{ap}
 use Rattle.paper_expressions.specs.Types.{Ty}
 use Rattle.paper_expressions.specs.View.{View}
 use Rattle.paper_expressions.specs.Expressions.{Exprs, HaveTypes}
@@ -28,8 +29,10 @@ pub data Summed (v : View) (T : ℕ) (es : Exprs) (s : Option Summary) : Type 0 
   all_typed : {ts : List Ty} → HaveTypes v T es ts → s ≡ Some (summary ts) → Summed v T es s
   not_all : ((ts : List Ty) → ¬ HaveTypes v T es ts) → s ≡ untyped_of → Summed v T es s
 
-pub summary_typed : (ts : List Ty) → is_some (Some (summary ts)) ≡ true
-summary_typed ts = refl
+-- of operands that have types something is gathered
+pub summary_typed : {v : View} {T : ℕ} {es : Exprs} {ts : List Ty} {s : Option Summary} → HaveTypes v T es ts → Summed v T es s → is_some s ≡ true
+summary_typed hs (all_typed ks e) = ap is_some e
+summary_typed {ts = ts} hs (not_all f e) = absurd (f ts hs)
 
 pub summary_list : (ts : List Ty) → (summary ts).list ≡ list_type ts
 summary_list [] = refl
