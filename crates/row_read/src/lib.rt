@@ -4,6 +4,7 @@
 ghost use Rattle.std.specs.Prelude.{◌≡◌};
 ghost use Rattle.paper_rows.specs.Table.{task, data_item, source};
 ghost use Rattle.planned.specs.Planned.{sources_in};
+ghost use Rattle.replying.specs.Ready.{loaded_f};
 ghost use Rattle.row_read.specs.Found.{OfKind};
 ghost use Rattle.row_read.specs.Read.{RowOf, ReadsRow};
 
@@ -82,7 +83,14 @@ fn of_kind(f: &[u32], w: WaitTable, s: &[u32], kind: u64, n: u64, p: u64) -> Row
     }
 }
 
-// Reads a row, after an exception too: refused with 7 where nothing is loaded.
+// Whether rows may be read: after an exception too.
+fn readable(s: &[u32]) -> bool
+    ensures { result ≡ loaded_f s.now }
+{
+    replying::loaded(s)
+}
+
+// Reads a row: refused with 7 where nothing is loaded.
 pub fn read(
     plan: &[u32],
     waits: WaitTable,
@@ -93,7 +101,7 @@ pub fn read(
 ) -> Row
     ensures { ReadsRow kind number property plan.now waits state.now result }
 {
-    if !replying::loaded(state) {
+    if !readable(state) {
         return row_shown::plain(Shown::Refused(Refusal::UNREADY));
     }
     if property >= Properties::NUMBER {

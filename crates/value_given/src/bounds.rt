@@ -46,5 +46,6 @@ pub fn within(tags: &[u32], nums: &[i64], bytes: &[u8]) -> bool
     if shape == 0 {
         return is_small(bytes, parts::word(tags, 1), number(nums, 1));
     }
-    shape as usize <= Values::CELLS && all_small(tags, nums, bytes, shape)
+    let most = Values::CELLS;
+    shape as usize <= most && all_small(tags, nums, bytes, shape)
 }
